@@ -1,0 +1,2 @@
+mod Extends
+pub mod Room

@@ -1,0 +1,4 @@
+pub mod Rule
+pub mod Nodes
+pub mod Testing
+pub mod Tables

@@ -11,7 +11,7 @@ use crate::kind::Kind;
 use crate::kind::KindPartialEq;
 
 /// The first place from `at` on that holds no space.
-pub fn skip_spaces(card: &[u8], at: Position) -> Position
+pub(crate) fn skip_spaces(card: &[u8], at: Position) -> Position
     requires { ⌜ at .place ≤ length (now card) ⌝ }
     ensures same { λ r. ⌜ tokens-at (now (card .entry)) r ≡ tokens-at (now (card .entry)) at ⌝ }
     ensures line { λ r. ⌜ r .line ≡ at .line ⌝ }
@@ -27,7 +27,7 @@ pub fn skip_spaces(card: &[u8], at: Position) -> Position
 }
 
 /// The place after the letters and digits that begin at `place`.
-pub fn run_end(card: &[u8], place: usize) -> usize
+pub(crate) fn run_end(card: &[u8], place: usize) -> usize
     requires { ⌜ place ≤ length (now card) ⌝ }
     ensures value { λ r. ⌜ r ≡ place + span (drop place (now (card .entry))) ⌝ }
     ensures within { λ r. ⌜ r ≤ length (now (card .entry)) ⌝ }

@@ -15,7 +15,7 @@ pub enum Kind {
 }
 
 /// What a byte is to a card.
-pub fn kind_of(byte: u8) -> Kind
+pub(crate) fn kind_of(byte: u8) -> Kind
     ensures { λ r. ⌜ r ≡ kind byte ⌝ }
 {
     match byte as char {
@@ -30,7 +30,7 @@ pub fn kind_of(byte: u8) -> Kind
 }
 
 /// Whether a byte may stand in a word or a number.
-pub fn is_wordy(byte: u8) -> bool
+pub(crate) fn is_wordy(byte: u8) -> bool
     ensures { λ r. ⌜ r ≡ wordy (kind byte) ⌝ }
 {
     matches!(kind_of(byte), Kind::Letter | Kind::Digit)

@@ -32,7 +32,7 @@ fn value(digits: &[u8]) -> Option<u16>
 }
 
 /// The number that the bytes write: one to three digits, with no zero before another digit.
-pub fn number(digits: &[u8]) -> Option<u16>
+pub(crate) fn number(digits: &[u8]) -> Option<u16>
     ensures { λ r. ⌜ r ≡ number-value (now (digits .entry)) ⌝ }
 {
     if digits.is_empty() || digits.len() > MOST_DIGITS {

@@ -31,7 +31,7 @@ fn node_fits(places: usize, index: usize, node: Node) -> bool
 }
 
 /// Whether nodes make a table of so many places.
-pub fn table_fits(places: usize, nodes: &[Node]) -> bool
+pub(crate) fn table_fits(places: usize, nodes: &[Node]) -> bool
     ensures { λ r. ⌜ Decides r (Table-fits places (now (nodes .entry))) ⌝ }
 {
     if nodes.len() < 1 || nodes.len() > MOST_NODES {

@@ -1,0 +1,3 @@
+mod Adding
+mod Examples
+mod Signals

@@ -1,0 +1,7 @@
+//! The reader of cards.
+mod fault;
+mod form;
+mod head;
+mod line;
+mod names;
+mod reader;

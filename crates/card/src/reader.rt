@@ -1,0 +1,13 @@
+use crate::names::Names;
+use fixed_vec::FixedVec;
+use lexer::Lexer;
+use rule::Node;
+
+/// A card on its way to being read: its tokens, and what they have said so far.
+#[derive(Drop)]
+pub(crate) struct Reader<'a> {
+    pub(crate) lexer: Lexer<'a>,
+    pub(crate) sessions: u8,
+    pub(crate) names: Names,
+    pub(crate) nodes: FixedVec<Node, 64>,
+}

@@ -1,3 +1,11 @@
 mod Adding
+mod Compile
+mod Complete
 mod Examples
+mod Lines
+mod Main
+mod Naming
+mod Plain
 mod Signals
+mod Sound
+mod Unique

@@ -43,7 +43,7 @@ pub found-none : (ns : List (List ℕ)) (w : List ℕ) (i : ℕ) → length ns �
 found-none ns w i h = ap (mapped (λ k. i + k)) (at-drop-all (λ l. signal-of l w) ns i h)
 
 -- the name at an index of a list of names that is lent as a slice
-module _ (held lent : List (FixedVec ℕ 16)) (w t : List ℕ) (i : ℕ) (x : FixedVec ℕ 16) (whole : lent ≡ held) (within : i < length lent) (is : x ≡ getD lent i x) (bytes : t ≡ items-of x) where
+module _ (held lent : List (FixedVec ℕ 16)) (t : List ℕ) (i : ℕ) (x : FixedVec ℕ 16) (whole : lent ≡ held) (within : i < length lent) (is : x ≡ getD lent i x) (bytes : t ≡ items-of x) where
   pub inside : i < length (map items-of held)
   inside = let l = ap length whole in omega (arith, length-map held items-of)
 

@@ -19,21 +19,22 @@ use Rattle.card.specs.declared.fault.FormFault.{FormFault}
 use Rattle.card.specs.declared.fault.LineFault.{LineFault}
 use Rattle.card.specs.declared.head.Topic.{Topic}
 use Rattle.card.specs.declared.head.Topic.the-variants.{Signal, Rule}
+use Rattle.card.specs.declared.reader.Draft.{Draft}
 use Rattle.card.specs.declared.reader.Reader.{Reader}
 use Rattle.card.specs.Faults.{form-report, line-report}
 use Rattle.card.specs.Named.{names-of}
-use Rattle.card.specs.Reading.{Due, Known, Outcome, refused, faulty, run, line, after-signal, after-rule}
+use Rattle.card.specs.Reading.{Due, Known, Outcome, accepted, refused, faulty, run, line, after-signal, after-rule}
 
-abbrev pub known : Reader → Known
-known r = record { sessions = r .sessions; names = names-of (r .names); nodes = items-of (r .nodes) }
+abbrev pub drafted : Draft → Known
+drafted d = record { sessions = d .sessions; names = names-of (d .names); nodes = items-of (d .nodes) }
 
 -- what the reading comes to from here, where ds is due and room brackets may open
 abbrev pub from : Reader → List Due → List ℕ → ℕ → Outcome
-from r ds vs room = run (left (r .lexer)) ds vs room (known r)
+from r ds vs room = run (left (r .lexer)) ds vs room (drafted (r .draft))
 
 -- a token is read, and r has what is left then
 abbrev pub from-token : Result Spot TokenFault → Reader → List Due → List ℕ → ℕ → Outcome
-from-token (Ok s) r ds vs room = run (spelled (s .at) (s .token) (left (r .lexer))) ds vs room (known r)
+from-token (Ok s) r ds vs room = run (spelled (s .at) (s .token) (left (r .lexer))) ds vs room (drafted (r .draft))
 from-token (Err f) r ds vs room = refused (token-report f)
 
 -- a part of a form is read and the reading goes on, or its fault is the card's
@@ -64,3 +65,8 @@ after-topic Rule = after-rule
 abbrev pub from-topic : Topic → Reader → List Due → List ℕ → Outcome
 from-topic Signal r ds vs = from r (line ∷ ds) vs 12
 from-topic Rule r ds vs = from r (after-rule ++ ds) vs 11
+
+-- what a scan of the whole card comes to
+abbrev pub scanned : Result Draft LineFault → Outcome
+scanned (Ok d) = accepted (drafted d)
+scanned (Err f) = refused (line-report f)

@@ -4,3 +4,5 @@ pub mod Named
 pub mod Layout
 pub mod Reading
 pub mod Holding
+pub mod Grammar
+pub mod Cards

@@ -12,7 +12,7 @@ ghost use Rattle.lexer.specs.Tokens.{token, close-bracket};
 ghost use Rattle.card.specs.declared.head.Head.{Head as HeadOf};
 ghost use Rattle.card.specs.declared.head.Head.the-variants as head;
 ghost use Rattle.card.specs.Faults.{form-report};
-ghost use Rattle.card.specs.Holding.{from, from-token, after-form, known, stray-number};
+ghost use Rattle.card.specs.Holding.{from, from-token, after-form, drafted, stray-number};
 ghost use Rattle.card.specs.Layout.{arity, head-nodes};
 ghost use Rattle.card.specs.Reading as due;
 ghost use Rattle.card.specs.Reading.{Due, refused, run};
@@ -62,8 +62,7 @@ impl<'a> Reader<'a> {
         ensures reads { λ r. ⌜ ((ds : List Due) (vs : List ℕ) (room : ℕ) → from (now (self .entry)) ds vs room ≡ from-token r (now (self .exit)) ds vs room) ⌝ }
         ensures falls { λ r. ⌜ made r (λ s. Falls (s .token) (unread (now (self .entry) .lexer)) (unread (now (self .exit) .lexer))) ⌝ }
         ensures part { λ r. ⌜ made r (λ s. Is-part (now (self .entry) .lexer .card) (s .token)) ⌝ }
-        ensures names { λ r. ⌜ now (self .exit) .names ≡ now (self .entry) .names ⌝ }
-        ensures nodes { λ r. ⌜ now (self .exit) .nodes ≡ now (self .entry) .nodes ⌝ }
+        ensures draft { λ r. ⌜ now (self .exit) .draft ≡ now (self .entry) .draft ⌝ }
     {
         self.lexer.next()
     }
@@ -106,7 +105,7 @@ impl<'a> Reader<'a> {
         let spot = self.next()?;
         match spot.token {
             Token::Number(n) => {
-                if n < 1 || n > self.sessions as u16 {
+                if n < 1 || n > self.draft.sessions as u16 {
                     return Err(FormFault::Range(spot.at));
                 }
                 Ok((n - 1) as u8)
@@ -139,7 +138,7 @@ impl<'a> Reader<'a> {
     {
         let spot = self.next()?;
         match spot.token {
-            Token::Word { text, offset: _ } => match self.names.find(text) {
+            Token::Word { text, offset: _ } => match self.draft.names.find(text) {
                 Some(signal) => Ok(signal),
                 None => Err(FormFault::Name(spot.at)),
             },
@@ -150,18 +149,18 @@ impl<'a> Reader<'a> {
     /// Adds the nodes of a form whose closing bracket is at `at`; the index of the last.
     fn add(&mut self, at: Position, nodes: &[Node]) -> Result<u8, FormFault>
         requires { ⌜ 0 < length (now nodes) ⌝ }
-        ensures { λ r. ⌜ ((ds : List Due) (vs : List ℕ) (room : ℕ) → due.settled at (run (left (now (self .entry) .lexer))) (due.adding (now (nodes .entry)) ds vs room (known (now (self .entry)))) ≡ after-form r (λ i. from (now (self .exit)) ds (i ∷ vs) (room + 1))) ⌝ }
+        ensures { λ r. ⌜ ((ds : List Due) (vs : List ℕ) (room : ℕ) → due.settled at (run (left (now (self .entry) .lexer))) (due.adding (now (nodes .entry)) ds vs room (drafted (now (self .entry) .draft))) ≡ after-form r (λ i. from (now (self .exit)) ds (i ∷ vs) (room + 1))) ⌝ }
     {
-        if !self.nodes.extend(nodes) {
+        if !self.draft.nodes.extend(nodes) {
             return Err(FormFault::Nodes(at));
         }
-        Ok((self.nodes.len() - 1) as u8)
+        Ok((self.draft.nodes.len() - 1) as u8)
     }
 
     /// The closing bracket of a form, which adds these nodes; the index of the last.
     fn close(&mut self, room: u8, nodes: &[Node]) -> Result<u8, FormFault>
         requires { ⌜ 0 < length (now nodes) ⌝ }
-        ensures { λ r. ⌜ ((h : HeadOf) (ds : List Due) (vs : List ℕ) → head-nodes h vs (length (items-of (now (self .entry) .nodes))) ≡ now (nodes .entry) → from (now (self .entry)) (due.makes h ∷ ds) vs room ≡ after-form r (λ i. from (now (self .exit)) ds (i ∷ drop (arity h) vs) (room + 1))) ⌝ }
+        ensures { λ r. ⌜ ((h : HeadOf) (ds : List Due) (vs : List ℕ) → head-nodes h vs (length (items-of (now (self .entry) .draft .nodes))) ≡ now (nodes .entry) → from (now (self .entry)) (due.makes h ∷ ds) vs room ≡ after-form r (λ i. from (now (self .exit)) ds (i ∷ drop (arity h) vs) (room + 1))) ⌝ }
     {
         let spot = self.next()?;
         match spot.token {
@@ -187,7 +186,7 @@ impl<'a> Reader<'a> {
         loop {
             let spot = self.next()?;
             match spot.token {
-                Token::Word { text, offset: _ } => match self.names.find(text) {
+                Token::Word { text, offset: _ } => match self.draft.names.find(text) {
                     Some(signal) => mask |= bit(signal),
                     None => return Err(FormFault::Name(spot.at)),
                 },
@@ -234,7 +233,7 @@ impl<'a> Reader<'a> {
         ensures { λ r. ⌜ ((ds : List Due) (vs : List ℕ) → from (now (self .entry)) (due.parts (head.One unary) ++ ds) vs room ≡ after-form r (λ i. from (now (self .exit)) ds (i ∷ vs) (room + 1))) ⌝ }
     {
         let f = self.form(room)?;
-        let n = self.nodes.len() as u8;
+        let n = self.draft.nodes.len() as u8;
         match unary {
             Unary::Not => self.close(room, &[Node::Not(f)]),
             Unary::Next => self.close(room, &[Node::Next(f)]),
@@ -248,7 +247,7 @@ impl<'a> Reader<'a> {
     {
         let f = self.form(room)?;
         let g = self.form(room)?;
-        let n = self.nodes.len() as u8;
+        let n = self.draft.nodes.len() as u8;
         match binary {
             Binary::And => self.close(room, &[Node::And(f, g)]),
             Binary::Or => self.close(room, &[Node::Or(f, g)]),

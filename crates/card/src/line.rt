@@ -5,7 +5,7 @@ ghost use Prim.Native.Nat.{ℕ, _<_};
 ghost use Rattle.std.specs.Vec.{made};
 ghost use Rattle.lexer.specs.Lexing.{unread};
 ghost use Rattle.card.specs.declared.head.Topic.the-variants as topic;
-ghost use Rattle.card.specs.Holding.{from, from-topic, after-line, after-topic, known};
+ghost use Rattle.card.specs.Holding.{from, from-topic, after-line, after-topic, drafted};
 ghost use Rattle.card.specs.Reading as due;
 ghost use Rattle.card.specs.Reading.{Due, accepted};
 use crate::fault::LineFault;
@@ -86,7 +86,7 @@ impl<'a> Reader<'a> {
                 if n < 1 || n > MOST_SESSIONS {
                     return Err(LineFault::Range(spot.at));
                 }
-                self.sessions = n as u8;
+                self.draft.sessions = n as u8;
                 Ok(())
             }
             _ => Err(LineFault::Stray(spot.at)),
@@ -121,7 +121,7 @@ impl<'a> Reader<'a> {
         let spot = self.next()?;
         match spot.token {
             Token::Word { text, offset: _ } => {
-                if !self.names.declare(text) {
+                if !self.draft.names.declare(text) {
                     return Err(LineFault::Name(spot.at));
                 }
                 Ok(())
@@ -166,7 +166,7 @@ impl<'a> Reader<'a> {
 
     /// The form of the last line, and the rest of the card.
     fn rule(&mut self) -> Result<(), LineFault>
-        ensures { λ r. ⌜ ((vs : List ℕ) → from (now (self .entry)) due.after-rule vs 11 ≡ after-line r (λ _. accepted (known (now (self .exit))))) ⌝ }
+        ensures { λ r. ⌜ ((vs : List ℕ) → from (now (self .entry)) due.after-rule vs 11 ≡ after-line r (λ _. accepted (drafted (now (self .exit) .draft)))) ⌝ }
     {
         self.form(BRACKETS)?;
         self.line_close()?;
@@ -180,7 +180,7 @@ impl<'a> Reader<'a> {
 
     /// All lines of the card.
     pub(crate) fn lines(&mut self) -> Result<(), LineFault>
-        ensures { λ r. ⌜ from (now (self .entry)) (due.opens due.first-line ∷ []) [] 12 ≡ after-line r (λ _. accepted (known (now (self .exit)))) ⌝ }
+        ensures { λ r. ⌜ from (now (self .entry)) (due.opens due.first-line ∷ []) [] 12 ≡ after-line r (λ _. accepted (drafted (now (self .exit) .draft))) ⌝ }
     {
         self.first_line()?;
         self.later_lines()?;

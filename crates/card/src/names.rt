@@ -2,7 +2,8 @@ ghost use mathlib.Core.Bool.{cond};
 ghost use mathlib.Core.List.{[], _∷_, _++_};
 ghost use mathlib.Core.Path.{_≡_};
 ghost use Prim.Native.Nat.{_<_, _≤_};
-ghost use lib.ListN.{length};
+ghost use denote.Ref.{now as held};
+ghost use lib.ListN.{length, getD};
 ghost use Rattle.std.specs.Options.{Cases};
 ghost use Rattle.card.specs.Words.{signal-of, is-new};
 ghost use Rattle.card.specs.Named.{names-of};
@@ -24,11 +25,21 @@ impl Names {
     }
 
     /// How many names there are.
-    pub(crate) fn len(&self) -> usize
+    pub fn len(&self) -> usize
         ensures value { λ r. ⌜ r ≡ length (names-of (now (self .entry))) ⌝ }
         ensures bound { λ r. ⌜ r ≤ 32 ⌝ }
     {
         self.names.len()
+    }
+
+    /// The name of a signal.
+    pub fn get(&self, signal: usize) -> Option<&[u8]>
+        ensures { λ r. ⌜ Cases r (length (names-of (now (self .entry))) ≤ signal) (λ name. (signal < length (names-of (now (self .entry)))) × (held name ≡ getD (names-of (now (self .entry))) signal [])) ⌝ }
+    {
+        match self.names.as_slice().get(signal) {
+            Some(name) => Some(name.as_slice()),
+            None => None,
+        }
     }
 
     /// The signal of a name.

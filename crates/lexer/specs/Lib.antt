@@ -2,3 +2,4 @@ pub mod Faults
 pub mod Tokens
 pub mod Places
 pub mod Lexing
+pub mod Lines

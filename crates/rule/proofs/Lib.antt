@@ -1,1 +1,2 @@
 mod Tested
+pub mod Unfold

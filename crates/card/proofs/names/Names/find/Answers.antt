@@ -18,8 +18,8 @@ returns-then-same-word c =
     let w = c .args .word .now in
     let t = c .as-slice .result .now in
     let i = c .loop-i .i in
-    let within = inside held lent w t i (c .name-item .result) (c .as-slice-name-items .ensures .value) (c .loop-i-test .taken) (c .name-item .is) (c .as-slice .ensures .value) in
-    let here = name-at held lent w t i (c .name-item .result) (c .as-slice-name-items .ensures .value) (c .loop-i-test .taken) (c .name-item .is) (c .as-slice .ensures .value) in
+    let within = inside held lent t i (c .name-item .result) (c .as-slice-name-items .ensures .value) (c .loop-i-test .taken) (c .name-item .is) (c .as-slice .ensures .value) in
+    let here = name-at held lent t i (c .name-item .result) (c .as-slice-name-items .ensures .value) (c .loop-i-test .taken) (c .name-item .is) (c .as-slice .ensures .value) in
     record {
       value = sym (found-here (names-of (c .args .self .now)) w i within (ap (λ l. same l w) here ∙ sym (c .if-same-word .ensures tt))) ∙ c .loop-i .inv;
       bound = omega arith;
@@ -32,8 +32,8 @@ loop-i-again c =
     let w = c .args .word .now in
     let t = c .as-slice .result .now in
     let i = c .loop-i .i in
-    let within = inside held lent w t i (c .name-item .result) (c .as-slice-name-items .ensures .value) (c .loop-i-test .taken) (c .name-item .is) (c .as-slice .ensures .value) in
-    let here = name-at held lent w t i (c .name-item .result) (c .as-slice-name-items .ensures .value) (c .loop-i-test .taken) (c .name-item .is) (c .as-slice .ensures .value) in
+    let within = inside held lent t i (c .name-item .result) (c .as-slice-name-items .ensures .value) (c .loop-i-test .taken) (c .name-item .is) (c .as-slice .ensures .value) in
+    let here = name-at held lent t i (c .name-item .result) (c .as-slice-name-items .ensures .value) (c .loop-i-test .taken) (c .name-item .is) (c .as-slice .ensures .value) in
     sym (found-later (names-of (c .args .self .now)) w i within (ap (λ l. same l w) here ∙ sym (c .if-same-word .ensures tt))) ∙ c .loop-i .inv
 
 pub returns : need.returns

@@ -1,0 +1,6 @@
+//! The entries that C calls.
+mod decimal;
+mod entry;
+mod line;
+
+pub use entry::portbook_card_line;

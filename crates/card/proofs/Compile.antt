@@ -13,10 +13,10 @@ use Rattle.rule.specs.Nodes.{node-rule, rules-after, rules, root, Node-fits, Ta
 use Rattle.rule.specs.Rule as rule
 use Rattle.rule.specs.Rule.{Rule}
 use Rattle.rule.proofs.Unfold.{rules-more, rules-none, rules-append}
-use Rattle.card.specs.declared.head.Binary.{Binary}
-use Rattle.card.specs.declared.head.Binary.the-variants.{And, Or, Until, Iff, Weak}
-use Rattle.card.specs.declared.head.Unary.{Unary}
-use Rattle.card.specs.declared.head.Unary.the-variants.{Not, Next, Always}
+use Rattle.syntax.specs.declared.head.Binary.{Binary}
+use Rattle.syntax.specs.declared.head.Binary.the-variants.{And, Or, Until, Iff, Weak}
+use Rattle.syntax.specs.declared.head.Unary.{Unary}
+use Rattle.syntax.specs.declared.head.Unary.the-variants.{Not, Next, Always}
 use Rattle.card.specs.Grammar.{Formula, truth, at, near, one, two, unary-size, binary-size, size, signal, signals, unary-rule, binary-rule, meaning, Declared, Fits}
 use Rattle.card.specs.Layout.{one-nodes, two-nodes}
 use Rattle.card.proofs.Naming.{signal-below}

@@ -15,16 +15,17 @@ use Rattle.std.proofs.shelf.Tests.{ne-eqb, lt-ltb, le-leb, and-from}
 use Rattle.lexer.specs.declared.fault.Layer.the-variants.{Form, Line}
 use Rattle.lexer.specs.Tokens.{Lexeme, Tokens, open-bracket, close-bracket, line-end, number, word}
 use Rattle.rule.specs.declared.node.Node.{Node}
-use Rattle.card.specs.declared.head.Binary.{Binary}
-use Rattle.card.specs.declared.head.Binary.the-variants.{And, Or, Until, Iff, Weak}
-use Rattle.card.specs.declared.head.Head.{Head}
-use Rattle.card.specs.declared.head.Head.the-variants.{True, At, Near, One, Two}
-use Rattle.card.specs.declared.head.Unary.{Unary}
-use Rattle.card.specs.declared.head.Unary.the-variants.{Not, Next, Always}
+use Rattle.syntax.specs.declared.head.Binary.{Binary}
+use Rattle.syntax.specs.declared.head.Binary.the-variants.{And, Or, Until, Iff, Weak}
+use Rattle.syntax.specs.declared.head.Head.{Head}
+use Rattle.syntax.specs.declared.head.Head.the-variants.{True, At, Near, One, Two}
+use Rattle.syntax.specs.declared.head.Unary.{Unary}
+use Rattle.syntax.specs.declared.head.Unary.the-variants.{Not, Next, Always}
 use Rattle.card.specs.Grammar.{Formula, truth, at, near, one, two, unary-word, binary-word, listed, spell, unary-size, binary-size, size, depth, signal, signals, Declared, All-declared, Distinct, Fits, Written, declarations, spelled, Within, Are}
 use Rattle.card.specs.Layout.{arity, head-nodes, one-nodes, two-nodes}
 use Rattle.card.specs.Reading.{Due, Known, Step, on, no, admit, form, line, words, head, signal as a-signal, mask, new-name, numbers, place, limit, names, makes, parts, begun, named, marked, joined, closes, ends, opens, first-line, accepted, run, nothing, read-tokens}
-use Rattle.card.specs.Words.{head-of, signal-of}
+use Rattle.syntax.specs.Words.{head-of}
+use Rattle.syntax.specs.Signals.{signal-of}
 use Rattle.card.proofs.Compile.{compile, compile-size, one-size, two-size, size-pos}
 use Rattle.card.proofs.Naming.{declared-found, undeclared-fresh, Fresh, distinct-fresh}
 use Rattle.card.proofs.Plain.{accepts, went, step, placed}

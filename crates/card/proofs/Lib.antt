@@ -6,6 +6,5 @@ mod Lines
 mod Main
 mod Naming
 mod Plain
-mod Signals
 mod Sound
 mod Unique

@@ -13,9 +13,11 @@ use Rattle.std.specs.declared.option.Option.the-variants.{Some, None}
 use Rattle.std.proofs.shelf.Tests.{and-parts, leb-true, ltb-true, not-true}
 use Rattle.lexer.specs.declared.fault.Layer.the-variants.{Line}
 use Rattle.lexer.specs.Tokens.{Lexeme, Tokens, open-bracket, close-bracket, line-end, number, word}
+use Rattle.syntax.specs.declared.head.Topic.the-variants as topic
 use Rattle.card.specs.Grammar.{Formula, spell, size, depth, Fits, Written, declarations, spelled, Within, Are}
-use Rattle.card.specs.Reading.{Due, Known, on, no, form, line, words, sessions-word, topic, new-name, numbers, sessions, closes, ends, opens, first-line, inside, after-signal, after-rule, accepted, nothing, read-tokens}
-use Rattle.card.specs.Words.{same, signal-of, is-new}
+use Rattle.card.specs.Reading.{Due, Known, on, no, form, line, words, sessions-word, topic, new-name, numbers, sessions, closes, ends, opens, first-line, inside, after-topic, lined, accepted, nothing, read-tokens}
+use Rattle.syntax.specs.Words.{same}
+use Rattle.syntax.specs.Signals.{signal-of, is-new}
 use Rattle.card.proofs.Complete.{extend, last-node, with-names, known-of, accepted-if}
 use Rattle.card.proofs.Naming.{impossible, same-is, fresh-undeclared, Fresh, fresh-distinct}
 use Rattle.card.proofs.Plain.{accepts, went, unplaced}
@@ -92,10 +94,10 @@ i-sessions (number n ∷ us) ds vs x o e = go (leb 1 n && leb n 4) refl e
     go false t f = impossible o f
 
 Signal : (us : List Lexeme) (vs : List ℕ) (x o : Known) → Type 0
-Signal us vs x o = Went (word (codes "signal")) us after-signal vs 11 x o
+Signal us vs x o = Went (word (codes "signal")) us (after-topic topic.Signal) vs 11 x o
 
 Rule : (us : List Lexeme) (vs : List ℕ) (x o : Known) → Type 0
-Rule us vs x o = Went (word (codes "rule")) us after-rule vs 11 x o
+Rule us vs x o = Went (word (codes "rule")) us (after-topic topic.Rule) vs 11 x o
 
 i-topic : (us : List Lexeme) (vs : List ℕ) (x o : Known) → accepts us (words topic ∷ []) vs 11 x ≡ Some o → Signal us vs x o ⊎ Rule us vs x o
 unfolding Signal Rule
@@ -106,7 +108,7 @@ i-topic (line-end ∷ us) vs x o e = impossible o e
 i-topic (number n ∷ us) vs x o e = impossible o e
 i-topic (word w ∷ us) vs x o e = go (same w (codes "signal")) refl (same w (codes "rule")) refl e
   where
-    go : (b : Bool) → same w (codes "signal") ≡ b → (c : Bool) → same w (codes "rule") ≡ c → went (accepts us) (cond b (on after-signal vs 11 x) (cond c (on after-rule vs 11 x) (no 3 Line))) ≡ Some o → Signal (word w ∷ us) vs x o ⊎ Rule (word w ∷ us) vs x o
+    go : (b : Bool) → same w (codes "signal") ≡ b → (c : Bool) → same w (codes "rule") ≡ c → went (accepts us) (lined (cond b (Some topic.Signal) (cond c (Some topic.Rule) None)) [] vs 11 x) ≡ Some o → Signal (word w ∷ us) vs x o ⊎ Rule (word w ∷ us) vs x o
     go true t c u f = inl (record { rest = us; is = ap (λ v. word v ∷ us) (same-is w (codes "signal") t); goes = f })
     go false t true u f = inr (record { rest = us; is = ap (λ v. word v ∷ us) (same-is w (codes "rule") u); goes = f })
     go false t false u f = impossible o f

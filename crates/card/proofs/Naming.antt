@@ -13,7 +13,8 @@ use Rattle.std.specs.declared.option.Option.the-variants.{Some, None}
 use Rattle.std.proofs.shelf.Equals.{compares-decides}
 use Rattle.std.proofs.shelf.Lists.{getD-append-left, getD-at}
 use Rattle.std.proofs.shelf.Tests.{cases-lt}
-use Rattle.card.specs.Words.{same, signal-of}
+use Rattle.syntax.specs.Words.{same}
+use Rattle.syntax.specs.Signals.{signal-of}
 use Rattle.card.specs.Grammar.{signal, Declared, Distinct}
 
 pub impossible : {A : Type 0} {B : Type 0} (o : A) → None ≡ Some o → B

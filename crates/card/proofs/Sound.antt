@@ -15,16 +15,17 @@ use Rattle.lexer.specs.declared.fault.Layer.{Layer}
 use Rattle.lexer.specs.declared.fault.Layer.the-variants.{Form, Line}
 use Rattle.lexer.specs.Tokens.{Lexeme, open-bracket, close-bracket, line-end, number, word}
 use Rattle.rule.specs.declared.node.Node.{Node}
-use Rattle.card.specs.declared.head.Binary.{Binary}
-use Rattle.card.specs.declared.head.Binary.the-variants.{And, Or, Until, Iff, Weak}
-use Rattle.card.specs.declared.head.Head.{Head}
-use Rattle.card.specs.declared.head.Head.the-variants.{True, At, Near, One, Two}
-use Rattle.card.specs.declared.head.Unary.{Unary}
-use Rattle.card.specs.declared.head.Unary.the-variants.{Not, Next, Always}
+use Rattle.syntax.specs.declared.head.Binary.{Binary}
+use Rattle.syntax.specs.declared.head.Binary.the-variants.{And, Or, Until, Iff, Weak}
+use Rattle.syntax.specs.declared.head.Head.{Head}
+use Rattle.syntax.specs.declared.head.Head.the-variants.{True, At, Near, One, Two}
+use Rattle.syntax.specs.declared.head.Unary.{Unary}
+use Rattle.syntax.specs.declared.head.Unary.the-variants.{Not, Next, Always}
 use Rattle.card.specs.Grammar.{Formula, truth, at, near, one, two, unary-word, binary-word, listed, spell, size, depth, Declared, All-declared, Fits}
 use Rattle.card.specs.Layout.{arity, head-nodes, one-nodes, two-nodes}
 use Rattle.card.specs.Reading.{Due, Known, Step, on, no, form, words, head, signal, mask, numbers, place, limit, names, makes, parts, begun, named, marked, joined, adding}
-use Rattle.card.specs.Words.{same, head-of, signal-of}
+use Rattle.syntax.specs.Words.{same, head-of}
+use Rattle.syntax.specs.Signals.{signal-of}
 use Rattle.card.proofs.Compile.{one-size, two-size}
 use Rattle.card.proofs.Complete.{with-nodes, extend, last-node, extend-size, complete}
 use Rattle.card.proofs.Naming.{impossible, same-is, found-declared}

@@ -8,12 +8,12 @@ use native.Mathlib.Omega.{arith}
 use Rattle.std.specs.declared.option.Option.{Option}
 use Rattle.std.specs.declared.option.Option.the-variants.{Some}
 use Rattle.lexer.specs.Tokens.{Lexeme, Tokens, token, over, bad, open-bracket, close-bracket, line-end, number, word}
-use Rattle.card.specs.declared.head.Binary.the-variants.{And, Or, Until, Iff, Weak}
-use Rattle.card.specs.declared.head.Head.{Head}
-use Rattle.card.specs.declared.head.Head.the-variants.{True, At, Near, One, Two}
-use Rattle.card.specs.declared.head.Unary.the-variants.{Not, Next, Always}
+use Rattle.syntax.specs.declared.head.Binary.the-variants.{And, Or, Until, Iff, Weak}
+use Rattle.syntax.specs.declared.head.Head.{Head}
+use Rattle.syntax.specs.declared.head.Head.the-variants.{True, At, Near, One, Two}
+use Rattle.syntax.specs.declared.head.Unary.the-variants.{Not, Next, Always}
 use Rattle.card.specs.Grammar.{Formula, truth, at, near, one, two, listed, spell, Written, declarations, spelled, Are}
-use Rattle.card.specs.Words.{same, head-of}
+use Rattle.syntax.specs.Words.{same, head-of}
 use Rattle.card.proofs.Sound.{head-word}
 
 -- the word of a form says which form it is

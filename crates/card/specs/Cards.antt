@@ -12,10 +12,10 @@ use Rattle.lexer.specs.Lines.{On-line}
 use Rattle.lexer.specs.Tokens.{card-tokens}
 use Rattle.rule.specs.Tables.{nodes-of, rule-of}
 use Rattle.card.specs.declared.card.Card.{Card}
-use Rattle.card.specs.declared.fault.LineFault.{LineFault}
-use Rattle.card.specs.Faults.{line-report}
+use Rattle.syntax.specs.declared.fault.LineFault.{LineFault}
+use Rattle.syntax.specs.Faults.{line-report}
 use Rattle.card.specs.Grammar.{Written, spelled, size, meaning, Within, Are}
-use Rattle.card.specs.Named.{names-of}
+use Rattle.syntax.specs.Named.{names-of}
 use Rattle.card.specs.Reading.{Known, Outcome, accepted, refused}
 
 -- what a card says

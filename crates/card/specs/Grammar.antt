@@ -10,11 +10,11 @@ use lib.ListN.{length, getD}
 use Rattle.lexer.specs.Tokens.{Lexeme, open-bracket, close-bracket, line-end, number, word, Tokens, token, over, bad}
 use Rattle.rule.specs.Rule as rule
 use Rattle.rule.specs.Rule.{Rule}
-use Rattle.card.specs.declared.head.Binary.{Binary}
-use Rattle.card.specs.declared.head.Binary.the-variants.{And, Or, Until, Iff, Weak}
-use Rattle.card.specs.declared.head.Unary.{Unary}
-use Rattle.card.specs.declared.head.Unary.the-variants.{Not, Next, Always}
-use Rattle.card.specs.Words.{same}
+use Rattle.syntax.specs.declared.head.Binary.{Binary}
+use Rattle.syntax.specs.declared.head.Binary.the-variants.{And, Or, Until, Iff, Weak}
+use Rattle.syntax.specs.declared.head.Unary.{Unary}
+use Rattle.syntax.specs.declared.head.Unary.the-variants.{Not, Next, Always}
+use Rattle.syntax.specs.Words.{same}
 
 -- ---- forms
 

@@ -15,15 +15,15 @@ use Rattle.lexer.specs.declared.token.Token.{Token}
 use Rattle.lexer.specs.declared.token.Token.the-variants.{Open, Close, LineEnd, Number, Word, End}
 use Rattle.lexer.specs.Faults.{token-report}
 use Rattle.lexer.specs.Lexing.{left, spelled}
-use Rattle.card.specs.declared.fault.FormFault.{FormFault}
-use Rattle.card.specs.declared.fault.LineFault.{LineFault}
-use Rattle.card.specs.declared.head.Topic.{Topic}
-use Rattle.card.specs.declared.head.Topic.the-variants.{Signal, Rule}
+use Rattle.syntax.specs.declared.fault.FormFault.{FormFault}
+use Rattle.syntax.specs.declared.fault.LineFault.{LineFault}
+use Rattle.syntax.specs.declared.head.Topic.{Topic}
+use Rattle.syntax.specs.declared.head.Topic.the-variants.{Signal, Rule}
 use Rattle.card.specs.declared.reader.Draft.{Draft}
 use Rattle.card.specs.declared.reader.Reader.{Reader}
-use Rattle.card.specs.Faults.{form-report, line-report}
-use Rattle.card.specs.Named.{names-of}
-use Rattle.card.specs.Reading.{Due, Known, Outcome, accepted, refused, faulty, run, line, after-signal, after-rule}
+use Rattle.syntax.specs.Faults.{form-report, line-report}
+use Rattle.syntax.specs.Named.{names-of}
+use Rattle.card.specs.Reading.{Due, Known, Outcome, accepted, refused, faulty, run, line, after-topic}
 
 abbrev pub drafted : Draft → Known
 drafted d = record { sessions = d .sessions; names = names-of (d .names); nodes = items-of (d .nodes) }
@@ -56,15 +56,10 @@ stray-number (Number n) room = 3
 stray-number (Word text offset) room = 3
 stray-number End room = 3
 
--- what follows the word of a line after the first
-abbrev pub after-topic : Topic → List Due
-after-topic Signal = after-signal
-after-topic Rule = after-rule
-
 -- a line after the first is read, to its end or as far as its form
 abbrev pub from-topic : Topic → Reader → List Due → List ℕ → Outcome
 from-topic Signal r ds vs = from r (line ∷ ds) vs 12
-from-topic Rule r ds vs = from r (after-rule ++ ds) vs 11
+from-topic Rule r ds vs = from r (after-topic Rule ++ ds) vs 11
 
 -- what a scan of the whole card comes to
 abbrev pub scanned : Result Draft LineFault → Outcome

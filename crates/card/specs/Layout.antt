@@ -4,12 +4,12 @@ use Prim.Native.Nat.{ℕ, _+_}
 use lib.ListN.{getD}
 use Rattle.rule.specs.declared.node.Node.{Node}
 use Rattle.rule.specs.declared.node.Node.the-variants as node
-use Rattle.card.specs.declared.head.Binary.{Binary}
-use Rattle.card.specs.declared.head.Binary.the-variants.{And, Or, Until, Iff, Weak}
-use Rattle.card.specs.declared.head.Head.{Head}
-use Rattle.card.specs.declared.head.Head.the-variants.{True, At, Near, One, Two}
-use Rattle.card.specs.declared.head.Unary.{Unary}
-use Rattle.card.specs.declared.head.Unary.the-variants.{Not, Next, Always}
+use Rattle.syntax.specs.declared.head.Binary.{Binary}
+use Rattle.syntax.specs.declared.head.Binary.the-variants.{And, Or, Until, Iff, Weak}
+use Rattle.syntax.specs.declared.head.Head.{Head}
+use Rattle.syntax.specs.declared.head.Head.the-variants.{True, At, Near, One, Two}
+use Rattle.syntax.specs.declared.head.Unary.{Unary}
+use Rattle.syntax.specs.declared.head.Unary.the-variants.{Not, Next, Always}
 
 -- the nodes of a form over the node f, of which the first has the index n
 abbrev pub one-nodes : Unary → ℕ → ℕ → List Node

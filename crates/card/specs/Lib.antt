@@ -1,6 +1,3 @@
-pub mod Words
-pub mod Faults
-pub mod Named
 pub mod Layout
 pub mod Reading
 pub mod Holding

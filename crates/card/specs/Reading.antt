@@ -16,10 +16,13 @@ use Rattle.lexer.specs.declared.fault.TokenFault.the-variants.{Long}
 use Rattle.lexer.specs.Faults.{token-report}
 use Rattle.lexer.specs.Tokens.{Lexeme, open-bracket, close-bracket, line-end, number, word, Tokens, token, over, bad, card-tokens}
 use Rattle.rule.specs.declared.node.Node.{Node}
-use Rattle.card.specs.declared.head.Head.{Head}
-use Rattle.card.specs.declared.head.Head.the-variants.{True, At, Near, One, Two}
+use Rattle.syntax.specs.declared.head.Head.{Head}
+use Rattle.syntax.specs.declared.head.Head.the-variants.{True, At, Near, One, Two}
 use Rattle.card.specs.Layout.{arity, head-nodes}
-use Rattle.card.specs.Words.{same, head-of, signal-of, is-new}
+use Rattle.syntax.specs.declared.head.Topic.{Topic}
+use Rattle.syntax.specs.declared.head.Topic.the-variants.{Signal, Rule}
+use Rattle.syntax.specs.Words.{same, head-of, topic-of}
+use Rattle.syntax.specs.Signals.{signal-of, is-new}
 
 -- ---- what may come next
 
@@ -79,11 +82,9 @@ inside first-line = words sessions-word ∷ numbers sessions ∷ closes ∷ ends
 inside later-line = words topic ∷ []
 
 -- what follows the word `signal` or `rule`
-abbrev pub after-signal : List Due
-after-signal = words new-name ∷ closes ∷ ends ∷ line ∷ []
-
-abbrev pub after-rule : List Due
-after-rule = form ∷ closes ∷ ends ∷ []
+abbrev pub after-topic : Topic → List Due
+after-topic Signal = words new-name ∷ closes ∷ ends ∷ line ∷ []
+after-topic Rule = form ∷ closes ∷ ends ∷ []
 
 -- ---- the layer of a fault: a form where one is due or open, else a line
 
@@ -185,6 +186,11 @@ abbrev pub begun : Option Head → List Due → List ℕ → ℕ → Known → S
 begun (Some h) ds vs room x = on (parts h ++ ds) vs room x
 begun None ds vs room x = no 3 Form
 
+-- the rest of the line that a word begins
+abbrev pub lined : Option Topic → List Due → List ℕ → ℕ → Known → Step
+lined (Some t) ds vs room x = on (after-topic t ++ ds) vs room x
+lined None ds vs room x = no 3 Line
+
 -- a signal is a value of `at`
 abbrev pub named : Option ℕ → List Due → List ℕ → ℕ → Known → Step
 named (Some i) ds vs room x = on ds (i ∷ vs) room x
@@ -206,9 +212,7 @@ declared w ds vs room x =
 
 abbrev pub worded : List ℕ → Words → List Due → List ℕ → ℕ → Known → Step
 worded w sessions-word ds vs room x = cond (same w (codes "sessions")) (on ds vs room x) (no 3 Line)
-worded w topic ds vs room x =
-    cond (same w (codes "signal")) (on (after-signal ++ ds) vs room x)
-    (cond (same w (codes "rule")) (on (after-rule ++ ds) vs room x) (no 3 Line))
+worded w topic ds vs room x = lined (topic-of w) ds vs room x
 worded w head ds vs room x = begun (head-of w) ds vs room x
 worded w new-name ds vs room x = declared w ds vs room x
 worded w signal ds vs room x = named (signal-of (x .names) w) ds vs room x

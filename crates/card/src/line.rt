@@ -4,15 +4,16 @@ ghost use mathlib.Core.Path.{_≡_};
 ghost use Prim.Native.Nat.{ℕ, _<_};
 ghost use Rattle.std.specs.Vec.{made};
 ghost use Rattle.lexer.specs.Lexing.{unread};
-ghost use Rattle.card.specs.declared.head.Topic.the-variants as topic;
-ghost use Rattle.card.specs.Holding.{from, from-topic, after-line, after-topic, drafted};
+ghost use Rattle.syntax.specs.declared.head.Topic.the-variants as topic;
+ghost use Rattle.card.specs.Holding.{from, from-topic, after-line, drafted};
 ghost use Rattle.card.specs.Reading as due;
 ghost use Rattle.card.specs.Reading.{Due, accepted};
-use crate::fault::LineFault;
-use crate::fault::LineFromForm;
-use crate::fault::LineFromToken;
-use crate::head::same_word;
-use crate::head::Topic;
+use syntax::LineFault;
+use syntax::LineFromForm;
+use syntax::LineFromToken;
+use syntax::is_sessions;
+use syntax::topic_of;
+use syntax::Topic;
 use crate::reader::Reader;
 use lexer::Token;
 
@@ -67,7 +68,7 @@ impl<'a> Reader<'a> {
         let spot = self.next()?;
         match spot.token {
             Token::Word { text, offset: _ } => {
-                if !same_word(text, b"sessions") {
+                if !is_sessions(text) {
                     return Err(LineFault::Stray(spot.at));
                 }
                 Ok(())
@@ -95,20 +96,15 @@ impl<'a> Reader<'a> {
 
     /// The word of a line after the first.
     fn topic(&mut self) -> Result<Topic, LineFault>
-        ensures reads { λ r. ⌜ ((ds : List Due) (vs : List ℕ) → from (now (self .entry)) (due.words due.topic ∷ ds) vs 11 ≡ after-line r (λ t. from (now (self .exit)) (after-topic t ++ ds) vs 11)) ⌝ }
+        ensures reads { λ r. ⌜ ((ds : List Due) (vs : List ℕ) → from (now (self .entry)) (due.words due.topic ∷ ds) vs 11 ≡ after-line r (λ t. from (now (self .exit)) (due.after-topic t ++ ds) vs 11)) ⌝ }
         ensures falls { λ r. ⌜ made r (λ _. unread (now (self .exit) .lexer) < unread (now (self .entry) .lexer)) ⌝ }
     {
         let spot = self.next()?;
         match spot.token {
-            Token::Word { text, offset: _ } => {
-                if same_word(text, b"signal") {
-                    return Ok(Topic::Signal);
-                }
-                if same_word(text, b"rule") {
-                    return Ok(Topic::Rule);
-                }
-                Err(LineFault::Stray(spot.at))
-            }
+            Token::Word { text, offset: _ } => match topic_of(text) {
+                Some(topic) => Ok(topic),
+                None => Err(LineFault::Stray(spot.at)),
+            },
             _ => Err(LineFault::Stray(spot.at)),
         }
     }
@@ -158,7 +154,7 @@ impl<'a> Reader<'a> {
 
     /// The later lines as far as the form of the last.
     fn later_lines(&mut self) -> Result<(), LineFault>
-        ensures { λ r. ⌜ ((ds : List Due) (vs : List ℕ) → from (now (self .entry)) (due.line ∷ ds) vs 12 ≡ after-line r (λ _. from (now (self .exit)) (due.after-rule ++ ds) vs 11)) ⌝ }
+        ensures { λ r. ⌜ ((ds : List Due) (vs : List ℕ) → from (now (self .entry)) (due.line ∷ ds) vs 12 ≡ after-line r (λ _. from (now (self .exit)) (due.after-topic topic.Rule ++ ds) vs 11)) ⌝ }
     {
         while let Topic::Signal = self.later_line()? {}
         Ok(())
@@ -166,7 +162,7 @@ impl<'a> Reader<'a> {
 
     /// The form of the last line, and the rest of the card.
     fn rule(&mut self) -> Result<(), LineFault>
-        ensures { λ r. ⌜ ((vs : List ℕ) → from (now (self .entry)) due.after-rule vs 11 ≡ after-line r (λ _. accepted (drafted (now (self .exit) .draft)))) ⌝ }
+        ensures { λ r. ⌜ ((vs : List ℕ) → from (now (self .entry)) (due.after-topic topic.Rule) vs 11 ≡ after-line r (λ _. accepted (drafted (now (self .exit) .draft)))) ⌝ }
     {
         self.form(BRACKETS)?;
         self.line_close()?;

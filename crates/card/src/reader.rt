@@ -1,4 +1,4 @@
-use crate::names::Names;
+use syntax::Names;
 use fixed_vec::FixedVec;
 use lexer::Lexer;
 use rule::Node;

@@ -1,6 +1,8 @@
 //! The card line for C.
 ghost use mathlib.Core.Path.{_≡_};
+ghost use lib.IntN.{pos};
 ghost use lib.ListN.{length};
+ghost use lib.Signed.{_≤ℤ_};
 ghost use Rattle.portbook.specs.Line.{answer, written};
 use crate::line::line_of;
 
@@ -15,6 +17,7 @@ const NO_ROOM: i32 = -13;
 #[unsafe(no_mangle)]
 pub extern "C" fn portbook_card_line(card: &[u8], out: &mut [u8]) -> i32
     ensures answer { λ r. ⌜ r ≡ answer (now (card .entry)) (now (out .entry)) ⌝ }
+    ensures bound { λ r. ⌜ r ≤ℤ pos 64 ⌝ }
     ensures written { λ _. ⌜ now (out .exit) ≡ written (now (card .entry)) (now (out .entry)) ⌝ }
 {
     if out.len() < LEAST_ROOM {

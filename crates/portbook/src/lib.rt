@@ -4,3 +4,6 @@ mod entry;
 mod line;
 
 pub use entry::portbook_card_line;
+
+#[cfg(test)]
+mod tests;

@@ -1,8 +1,8 @@
 ghost use mathlib.Core.Bool.{cond};
 ghost use mathlib.Core.List.{[], _∷_, _++_};
 ghost use mathlib.Core.Path.{_≡_};
-ghost use Prim.Native.Nat.{_+_, _≤_};
-ghost use lib.Dec.{leb, ltb};
+ghost use Prim.Native.Nat.{_≤_};
+ghost use lib.Dec.{ltb};
 ghost use lib.ListN.{length};
 ghost use Rattle.fixed_vec.specs.Items.{items-of};
 use crate::vec::FixedVec;
@@ -20,7 +20,7 @@ impl<T: Copy, const N: usize> FixedVec<T, N> {
         ensures value { λ r. ⌜ r ≡ length (items-of (now (self .entry))) ⌝ }
         ensures bound { λ r. ⌜ r ≤ N ⌝ }
     {
-        self.len
+        self.as_slice().len()
     }
 
     /// The items.
@@ -43,26 +43,5 @@ impl<T: Copy, const N: usize> FixedVec<T, N> {
         self.items[self.len] = item;
         self.len += 1;
         true
-    }
-
-    /// Appends all of the items; false, with nothing changed, where there is no room for all.
-    pub fn extend(&mut self, items: &[T]) -> bool
-        ensures taken { λ r. ⌜ r ≡ leb (length (items-of (now (self .entry))) + length (now (items .entry))) N ⌝ }
-        ensures after { λ r. ⌜ items-of (now (self .exit)) ≡ cond r (items-of (now (self .entry)) ++ now (items .entry)) (items-of (now (self .entry))) ⌝ }
-    {
-        if items.len() > N - self.len {
-            return false;
-        }
-        for item in items {
-            self.push(*item);
-        }
-        true
-    }
-
-    /// Takes all items away.
-    pub fn clear(&mut self)
-        ensures { λ _. ⌜ items-of (now (self .exit)) ≡ [] ⌝ }
-    {
-        self.len = 0;
     }
 }

@@ -5,7 +5,6 @@ ghost use lib.ListN.{length, getD};
 ghost use Rattle.std.specs.Vec.{made, refused};
 ghost use Rattle.lexer.specs.Tokens.{kind, card-tokens};
 ghost use Rattle.lexer.specs.Places.{tokens-at};
-ghost use Rattle.lexer.specs.Lines.{Lined};
 ghost use Rattle.lexer.specs.Lexing.{left, unread, read-one, taken, Ends, Is-part, Falls};
 use crate::bytes::run_end;
 use crate::bytes::skip_spaces;
@@ -62,7 +61,6 @@ impl<'a> Lexer<'a> {
     /// The tokens of a card, from its first byte on.
     pub fn new(card: &'a [u8]) -> Lexer<'a>
         ensures left { λ r. ⌜ left r ≡ card-tokens (now (card .entry)) ⌝ }
-        ensures lined { λ r. ⌜ Lined (now (card .entry)) (left r) ⌝ }
         ensures card { λ r. ⌜ r .card ≡ card .entry ⌝ }
     {
         Lexer { card, at: Position { place: 0, line: 1 } }

@@ -11,13 +11,13 @@ use Rattle.rule.specs.declared.table.Table.{Table}
 use Rattle.rule.specs.Nodes.{root, Table-fits}
 use Rattle.rule.specs.Tables.{Holds-nodes}
 use Rattle.card.specs.declared.card.Card.{Card}
-use Rattle.card.specs.declared.fault.LineFault.{LineFault}
-use Rattle.card.specs.declared.names.Names.{Names}
+use Rattle.syntax.specs.declared.fault.LineFault.{LineFault}
+use Rattle.syntax.specs.declared.names.Names.{Names}
 use Rattle.card.specs.Cards.{said, Writes, Agrees, Decided, Lined-fault}
-use Rattle.card.specs.Faults.{line-report}
+use Rattle.syntax.specs.Faults.{line-report}
 use Rattle.card.specs.Grammar.{Written}
 use Rattle.card.specs.Holding.{drafted}
-use Rattle.card.specs.Named.{names-of}
+use Rattle.syntax.specs.Named.{names-of}
 use Rattle.card.specs.Reading.{Known, accepted, refused, reading}
 use Rattle.card.proofs.Complete.{known-of}
 use Rattle.card.proofs.Main.{Accepted, accepted-card, accepted-fits, accepted-rule, accepted-size, refused-card, refused-lined}

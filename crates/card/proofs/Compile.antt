@@ -115,16 +115,19 @@ each-fits names k n (two b f g) few fits =
     let j = size-pos g in
     each-append k n (compile names n f) (compile names (n + size f) g ++ ns) (each-fits names k n f few (fits .0))
     (subst (λ l. Each k (n + l) (compile names (n + size f) g ++ ns)) (sym (compile-size names n f))
-      (each-append k (n + size f) (compile names (n + size f) g) ns (each-fits names k (n + size f) g few (fits .1))
-        (subst (λ l. Each k (n + size f + l) ns) (sym (compile-size names (n + size f) g))
-          (two-fits b k (n + size f - 1) (n + size f + size g - 1) (n + size f + size g) (omega arith) (omega arith)))))
+    (each-append k (n + size f) (compile names (n + size f) g) ns (each-fits names k (n + size f) g few (fits .1))
+    (subst (λ l. Each k (n + size f + l) ns) (sym (compile-size names (n + size f) g))
+    (two-fits b k (n + size f - 1) (n + size f + size g - 1) (n + size f + size g) (omega arith) (omega arith)))))
 
 pub compile-fits : (names : List (List ℕ)) (k : ℕ) (f : Formula) → 1 ≤ k → k ≤ 4 → length names ≤ 32 → size f ≤ 64 → Fits k names f → Table-fits k (compile names 0 f)
 compile-fits names k f low high few small fits =
     let l = compile-size names 0 f in
     let p = size-pos f in
     record {
-      some = omega arith; few = omega arith; low = low; high = high;
+      some = omega arith;
+      few = omega arith;
+      low = low;
+      high = high;
       each = λ i h. let e : 0 + i ≡ i = omega arith in subst (λ m. Node-fits k m (getD (compile names 0 f) i node.True)) e (each-at k 0 (compile names 0 f) (each-fits names k 0 f few fits) i h);
     }
 
@@ -168,12 +171,12 @@ module _ (rs : List Rule) where
       record {
         es = x4;
         is =
-          start (one-nodes Always f n)
-          ∙ rules-more rs [] node.True (node.Not f ∷ n2) rule.truth refl
-          ∙ rules-more rs x1 (node.Not f) n2 (rule.negation F) (ap rule.negation (old x1 f h ∙ e))
-          ∙ rules-more rs x2 (node.Until n (n + 1)) (node.Not (n + 2) ∷ []) u (ap₂ rule.until (first x2) (later x2 1))
-          ∙ rules-more rs x3 (node.Not (n + 2)) [] (rule.negation u) (ap rule.negation (later x3 2))
-          ∙ rules-none (rs ++ x4);
+            start (one-nodes Always f n)
+            ∙ rules-more rs [] node.True (node.Not f ∷ n2) rule.truth refl
+            ∙ rules-more rs x1 (node.Not f) n2 (rule.negation F) (ap rule.negation (old x1 f h ∙ e))
+            ∙ rules-more rs x2 (node.Until n (n + 1)) (node.Not (n + 2) ∷ []) u (ap₂ rule.until (first x2) (later x2 1))
+            ∙ rules-more rs x3 (node.Not (n + 2)) [] (rule.negation u) (ap rule.negation (later x3 2))
+            ∙ rules-none (rs ++ x4);
         long = refl;
         last = refl;
       }
@@ -196,13 +199,13 @@ module _ (rs : List Rule) where
       record {
         es = x5;
         is =
-          start (two-nodes Iff f g n)
-          ∙ rules-more rs [] (node.And f g) (node.Not f ∷ node.Not g ∷ n3) (rule.both F G) (ap₂ rule.both (old [] f h ∙ e) (old [] g k ∙ d))
-          ∙ rules-more rs x1 (node.Not f) (node.Not g ∷ n3) nF (ap rule.negation (old x1 f h ∙ e))
-          ∙ rules-more rs x2 (node.Not g) n3 nG (ap rule.negation (old x2 g k ∙ d))
-          ∙ rules-more rs x3 (node.And (n + 1) (n + 2)) n4 (rule.both nF nG) (ap₂ rule.both (later x3 1) (later x3 2))
-          ∙ rules-more rs x4 (node.Or n (n + 3)) [] (rule.iff F G) (ap₂ rule.either (first x4) (later x4 3))
-          ∙ rules-none (rs ++ x5);
+            start (two-nodes Iff f g n)
+            ∙ rules-more rs [] (node.And f g) (node.Not f ∷ node.Not g ∷ n3) (rule.both F G) (ap₂ rule.both (old [] f h ∙ e) (old [] g k ∙ d))
+            ∙ rules-more rs x1 (node.Not f) (node.Not g ∷ n3) nF (ap rule.negation (old x1 f h ∙ e))
+            ∙ rules-more rs x2 (node.Not g) n3 nG (ap rule.negation (old x2 g k ∙ d))
+            ∙ rules-more rs x3 (node.And (n + 1) (n + 2)) n4 (rule.both nF nG) (ap₂ rule.both (later x3 1) (later x3 2))
+            ∙ rules-more rs x4 (node.Or n (n + 3)) [] (rule.iff F G) (ap₂ rule.either (first x4) (later x4 3))
+            ∙ rules-none (rs ++ x5);
         long = refl;
         last = refl;
       }
@@ -222,13 +225,13 @@ module _ (rs : List Rule) where
       record {
         es = x5;
         is =
-          start (two-nodes Weak f g n)
-          ∙ rules-more rs [] (node.Not f) (node.Not g ∷ n2) nF (ap rule.negation (old [] f h ∙ e))
-          ∙ rules-more rs x1 (node.Not g) n2 nG (ap rule.negation (old x1 g k ∙ d))
-          ∙ rules-more rs x2 (node.And n (n + 1)) n3 (rule.both nF nG) (ap₂ rule.both (first x2) (later x2 1))
-          ∙ rules-more rs x3 (node.Until (n + 1) (n + 2)) n4 u (ap₂ rule.until (later x3 1) (later x3 2))
-          ∙ rules-more rs x4 (node.Not (n + 3)) [] (rule.weak F G) (ap rule.negation (later x4 3))
-          ∙ rules-none (rs ++ x5);
+            start (two-nodes Weak f g n)
+            ∙ rules-more rs [] (node.Not f) (node.Not g ∷ n2) nF (ap rule.negation (old [] f h ∙ e))
+            ∙ rules-more rs x1 (node.Not g) n2 nG (ap rule.negation (old x1 g k ∙ d))
+            ∙ rules-more rs x2 (node.And n (n + 1)) n3 (rule.both nF nG) (ap₂ rule.both (first x2) (later x2 1))
+            ∙ rules-more rs x3 (node.Until (n + 1) (n + 2)) n4 u (ap₂ rule.until (later x3 1) (later x3 2))
+            ∙ rules-more rs x4 (node.Not (n + 3)) [] (rule.weak F G) (ap rule.negation (later x4 3))
+            ∙ rules-none (rs ++ x5);
         long = refl;
         last = refl;
       }
@@ -248,9 +251,9 @@ then rs ns ms m n q r some a b =
       is = rules-append rs ns ms ∙ ap (λ l. rules-after l ms) (a .is) ∙ b .is ∙ append-assoc rs (a .es) (b .es);
       long = omega (arith, a .long, b .long);
       last =
-        ap (λ i. getD (a .es ++ b .es) i rule.truth) (let i : m + n - 1 ≡ length (a .es) + (n - 1) = omega (arith, a .long) in i)
-        ∙ getD-append-add (a .es) (b .es) (n - 1) rule.truth
-        ∙ b .last;
+          ap (λ i. getD (a .es ++ b .es) i rule.truth) (let i : m + n - 1 ≡ length (a .es) + (n - 1) = omega (arith, a .long) in i)
+          ∙ getD-append-add (a .es) (b .es) (n - 1) rule.truth
+          ∙ b .last;
     }
 
 unfolded : (names : List (List ℕ)) (rs : List Rule) (f : Formula) → Unfolds rs (compile names (length rs) f) (size f) (meaning names f)
@@ -265,7 +268,7 @@ unfolded names rs (one u f) =
     let n : length (rs ++ a .es) ≡ length rs + size f = length-append rs (a .es) ∙ ap (λ l. length rs + l) (a .long) in
     then rs (compile names (length rs) f) (one-nodes u (length rs + size f - 1) (length rs + size f)) (size f) (unary-size u) (meaning names f) (unary-rule u (meaning names f)) (unary-some u) a
     (subst (λ m. Unfolds (rs ++ a .es) (one-nodes u (length rs + size f - 1) m) (unary-size u) (unary-rule u (meaning names f))) n
-      (one-unfolds (rs ++ a .es) u (length rs + size f - 1) (meaning names f) (omega arith) (newest rs (a .es) (size f) p ∙ a .last)))
+    (one-unfolds (rs ++ a .es) u (length rs + size f - 1) (meaning names f) (omega arith) (newest rs (a .es) (size f) p ∙ a .last)))
   where
     unary-some : (u : Unary) → 1 ≤ unary-size u
     unary-some Not = omega arith
@@ -280,20 +283,20 @@ unfolded names rs (two b f g) =
     let q = size-pos g in
     let n1 : length r1 ≡ n = length-append rs (a .es) ∙ ap (λ l. length rs + l) (a .long) in
     let c : Unfolds r1 (compile names n g) (size g) (meaning names g) =
-      subst (λ m. Unfolds r1 (compile names m g) (size g) (meaning names g)) n1 (unfolded names r1 g) in
+    subst (λ m. Unfolds r1 (compile names m g) (size g) (meaning names g)) n1 (unfolded names r1 g) in
     let r2 = r1 ++ c .es in
     let n2 : length r2 ≡ n + size g = length-append r1 (c .es) ∙ ap₂ _+_ n1 (c .long) in
     let f-last : getD r2 (n - 1) rule.truth ≡ meaning names f =
-      old r1 (c .es) (n - 1) (omega arith) ∙ newest rs (a .es) (size f) p ∙ a .last in
+    old r1 (c .es) (n - 1) (omega arith) ∙ newest rs (a .es) (size f) p ∙ a .last in
     let g-last : getD r2 (n + size g - 1) rule.truth ≡ meaning names g =
-      ap (λ m. getD r2 (m + size g - 1) rule.truth) (sym n1) ∙ newest r1 (c .es) (size g) q ∙ c .last in
+    ap (λ m. getD r2 (m + size g - 1) rule.truth) (sym n1) ∙ newest r1 (c .es) (size g) q ∙ c .last in
     let d : Unfolds r2 ns (binary-size b) (binary-rule b (meaning names f) (meaning names g)) =
-      subst (λ m. Unfolds r2 (two-nodes b (n - 1) (n + size g - 1) m) (binary-size b) (binary-rule b (meaning names f) (meaning names g))) n2
-      (two-unfolds r2 b (n - 1) (n + size g - 1) (meaning names f) (meaning names g) (omega arith) (omega arith) f-last g-last) in
+    subst (λ m. Unfolds r2 (two-nodes b (n - 1) (n + size g - 1) m) (binary-size b) (binary-rule b (meaning names f) (meaning names g))) n2
+    (two-unfolds r2 b (n - 1) (n + size g - 1) (meaning names f) (meaning names g) (omega arith) (omega arith) f-last g-last) in
     let e : size f + (size g + binary-size b) ≡ size f + size g + binary-size b = omega arith in
     subst (λ m. Unfolds rs (compile names (length rs) f ++ (compile names n g ++ ns)) m (binary-rule b (meaning names f) (meaning names g))) e
     (then rs (compile names (length rs) f) (compile names n g ++ ns) (size f) (size g + binary-size b) (meaning names f) (binary-rule b (meaning names f) (meaning names g)) (omega arith) a
-      (then r1 (compile names n g) ns (size g) (binary-size b) (meaning names g) (binary-rule b (meaning names f) (meaning names g)) (binary-some b) c d))
+    (then r1 (compile names n g) ns (size g) (binary-size b) (meaning names g) (binary-rule b (meaning names f) (meaning names g)) (binary-some b) c d))
   where
     binary-some : (b : Binary) → 1 ≤ binary-size b
     binary-some And = omega arith

@@ -155,7 +155,7 @@ complete (two b f g) us ds vs room x fits deep small =
     ∙ (λ k. accepts (close-bracket ∷ us) (makes (Two b) ∷ ds) (gl k ∷ i ∷ vs) (room - 1) (same k))
     ∙ c-close (Two b) ns us ds (j ∷ i ∷ vs) (room - 1) w′ (ap (two-nodes b i j) e2) (omega arith)
     ∙ back us ds vs room (length (w′ .nodes) + length ns - 1) (last-node (two b f g) x) x (w′ .nodes ++ ns) (extend (two b f g) x .nodes) (omega arith) last
-      (append-assoc (y .nodes) G ns ∙ append-assoc (x .nodes) F (G ++ ns))
+    (append-assoc (y .nodes) G ns ∙ append-assoc (x .nodes) F (G ++ ns))
 
 -- ---- the lines
 
@@ -168,7 +168,7 @@ c-lines (s ∷ ss) us vs x d h =
     let y = with-names x (x .names ++ (s ∷ [])) in
     let ds = closes ∷ ends ∷ line ∷ [] in
     let new : (not (isSome (signal-of (x .names) s)) && ltb (length (x .names)) 32) ≡ true =
-      ap (λ b. not b && ltb (length (x .names)) 32) (undeclared-fresh (x .names) s (d .0)) ∙ lt-ltb (length (x .names)) 32 (omega arith) in
+    ap (λ b. not b && ltb (length (x .names)) 32) (undeclared-fresh (x .names) s (d .0)) ∙ lt-ltb (length (x .names)) 32 (omega arith) in
     ap (λ b. went (accepts (close-bracket ∷ line-end ∷ declarations ss us)) (cond b (on ds vs 11 y) (no 5 Line))) new
     ∙ c-lines ss us vs y (d .1) (omega (arith, length-append (x .names) (s ∷ [])))
     ∙ ap (λ ns. accepts us (line ∷ []) vs 12 (with-names x ns)) (append-assoc (x .names) (s ∷ []) ss)

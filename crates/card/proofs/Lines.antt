@@ -164,11 +164,14 @@ ruled us rest vs x o e h a =
     let d = i-ends (c .rest) [] ws y o (c .goes) in
     let z = i-over (d .rest) ws 12 y o (d .goes) in
     record {
-      ss = []; f = b .f;
+      ss = [];
+      f = b .f;
       is = e ∙ ap (λ l. open-bracket ∷ l) (a .is ∙ ap (λ l. word (codes "rule") ∷ l) (b .is ∙ ap (spell (b .f)) (c .is ∙ ap (λ l. close-bracket ∷ l) (d .is ∙ ap (λ l. line-end ∷ l) z))));
-      fresh = tt; few = omega arith;
+      fresh = tt;
+      few = omega arith;
       fits = subst (λ ns. Fits (x .sessions) ns (b .f)) (sym (append-nil (x .names))) (b .fits);
-      shallow = b .shallow; small = b .small;
+      shallow = b .shallow;
+      small = b .small;
     }
 
 signalled : (n : ℕ) (us rest : List Lexeme) (vs : List ℕ) (x o : Known) → ((us : List Lexeme) (x : Known) → length us ≤ n → length (x .names) ≤ 32 → accepts us (line ∷ []) vs 12 x ≡ Some o → Lined us x) → length us ≤ suc n → us ≡ open-bracket ∷ rest → Signal rest vs x o → Lined us x
@@ -182,11 +185,14 @@ signalled n us rest vs x o ih long e a =
     let names = length-append (x .names) (b .s ∷ []) in
     let q = ih (d .rest) y (omega (arith, ap length is)) (omega (arith, b .few)) (d .goes) in
     record {
-      ss = b .s ∷ q .ss; f = q .f;
+      ss = b .s ∷ q .ss;
+      f = q .f;
       is = is ∙ ap (λ l. open-bracket ∷ word (codes "signal") ∷ word (b .s) ∷ close-bracket ∷ line-end ∷ l) (q .is);
-      fresh = (fresh-undeclared (x .names) (b .s) (b .fresh), q .fresh); few = omega (arith, q .few);
+      fresh = (fresh-undeclared (x .names) (b .s) (b .fresh), q .fresh);
+      few = omega (arith, q .few);
       fits = subst (λ ns. Fits (x .sessions) ns (q .f)) (append-assoc (x .names) (b .s ∷ []) (q .ss)) (q .fits);
-      shallow = q .shallow; small = q .small;
+      shallow = q .shallow;
+      small = q .small;
     }
 
 sound-lines : (n : ℕ) (us : List Lexeme) (vs : List ℕ) (x o : Known) → length us ≤ n → length (x .names) ≤ 32 → accepts us (line ∷ []) vs 12 x ≡ Some o → Lined us x
@@ -194,8 +200,8 @@ sound-lines zero us vs x o long few e = let a = i-later us [] vs x o e in absurd
 sound-lines (suc n) us vs x o long few e =
     let a = i-later us [] vs x o e in
     elim (i-topic (a .rest) vs x o (a .goes)) [
-      inl b ↦ signalled n us (a .rest) vs x o (λ us x l f e. sound-lines n us vs x o l f e) long (a .is) b
-    | inr b ↦ ruled us (a .rest) vs x o (a .is) few b
+      | inl b ↦ signalled n us (a .rest) vs x o (λ us x l f e. sound-lines n us vs x o l f e) long (a .is) b
+      | inr b ↦ ruled us (a .rest) vs x o (a .is) few b
     ]
 
 -- a card of the grammar that the tokens write

@@ -79,10 +79,13 @@ push-distinct ns s d no′ i j h k e = go (cases-lt i (length ns)) (cases-lt j (
   where
     long : length (ns ++ (s ∷ [])) ≡ length ns + 1
     long = length-append ns (s ∷ [])
+
     left : (i : ℕ) → i < length ns → getD (ns ++ (s ∷ [])) i [] ≡ getD ns i []
     left i l = getD-append-left ns (s ∷ []) [] i l
+
     last : (i : ℕ) → i < length (ns ++ (s ∷ [])) → length ns ≤ i → getD (ns ++ (s ∷ [])) i [] ≡ s
     last i l m = getD-at ns s [] [] i (let z = long in omega arith)
+
     go : (i < length ns) ⊎ (length ns ≤ i) → (j < length ns) ⊎ (length ns ≤ j) → i ≡ j
     go (inl a) (inl b) = d i j a b (sym (left i a) ∙ e ∙ left j b)
     go (inl a) (inr b) = absurd (no′ (i, a, sym (left i a) ∙ e ∙ last j k b))
@@ -98,9 +101,9 @@ distinct-fresh-after : (seen ss : List (List ℕ)) → Distinct (seen ++ ss) →
 distinct-fresh-after seen [] d = tt
 distinct-fresh-after seen (s ∷ ss) d = (
   λ (i, h, e).
-    let n : length (seen ++ (s ∷ ss)) ≡ length seen + suc (length ss) = length-append seen (s ∷ ss) in
-    let z : i ≡ length seen = d i (length seen) (omega arith) (omega arith) (getD-append-left seen (s ∷ ss) [] i h ∙ e ∙ sym (getD-at seen s ss [] (length seen) refl)) in
-    omega arith,
+      let n : length (seen ++ (s ∷ ss)) ≡ length seen + suc (length ss) = length-append seen (s ∷ ss) in
+      let z : i ≡ length seen = d i (length seen) (omega arith) (omega arith) (getD-append-left seen (s ∷ ss) [] i h ∙ e ∙ sym (getD-at seen s ss [] (length seen) refl)) in
+      omega arith,
   distinct-fresh-after (seen ++ (s ∷ [])) ss (subst Distinct (sym (append-assoc seen (s ∷ []) ss)) d),
 )
 

@@ -231,9 +231,12 @@ by-head At r ih us ds vs x o e =
     let s = i-signal (v .rest) (makes At ∷ ds) ((v .n - 1) ∷ vs) r x o (v .goes) in
     let q = i-makes At (s .rest) ds (s .i ∷ (v .n - 1) ∷ vs) r x o (s .goes) in
     record {
-      f = at (v .n) (s .s); rest = q .rest;
+      f = at (v .n) (s .s);
+      rest = q .rest;
       is = ap (λ l. open-bracket ∷ word (codes "at") ∷ l) (v .is ∙ ap (λ l. number (v .n) ∷ l) (s .is ∙ ap (λ l. word (s .s) ∷ l) (q .is)));
-      fits = (v .fits .0, v .fits .1, s .fits); shallow = omega arith; small = q .small;
+      fits = (v .fits .0, v .fits .1, s .fits);
+      shallow = omega arith;
+      small = q .small;
     }
 by-head Near r ih us ds vs x o e =
     let k = words mask ∷ names ∷ ds in
@@ -243,18 +246,23 @@ by-head Near r ih us ds vs x o e =
     let s = i-mask (n .rest) (names ∷ ds) (n .n ∷ (w .n - 1) ∷ (v .n - 1) ∷ vs) r x o (n .goes) in
     let q = i-names (s .rest) ds (2 ^ s .i) (n .n ∷ (w .n - 1) ∷ (v .n - 1) ∷ vs) r x o (s .goes) in
     record {
-      f = near (v .n) (w .n) (n .n) (s .s) (q .ss); rest = q .rest;
+      f = near (v .n) (w .n) (n .n) (s .s) (q .ss);
+      rest = q .rest;
       is = ap (λ l. open-bracket ∷ word (codes "near") ∷ l) (v .is ∙ ap (λ l. number (v .n) ∷ l) (w .is ∙ ap (λ l. number (w .n) ∷ l) (n .is ∙ ap (λ l. number (n .n) ∷ l) (s .is ∙ ap (λ l. word (s .s) ∷ l) (q .is)))));
-      fits = (v .fits .0, v .fits .1, w .fits .0, w .fits .1, n .fits, s .fits, q .fits); shallow = omega arith; small = q .small;
+      fits = (v .fits .0, v .fits .1, w .fits .0, w .fits .1, n .fits, s .fits, q .fits);
+      shallow = omega arith;
+      small = q .small;
     }
 by-head (One u) r ih us ds vs x o e =
     let a = ih us (makes (One u) ∷ ds) vs x o e in
     let y = extend (a .f) x in
     let q = i-makes (One u) (a .rest) ds (last-node (a .f) x ∷ vs) r y o (form-goes r us (makes (One u) ∷ ds) vs x o a e) in
     record {
-      f = one u (a .f); rest = q .rest;
+      f = one u (a .f);
+      rest = q .rest;
       is = ap (λ l. open-bracket ∷ word (unary-word u) ∷ l) (a .is ∙ ap (spell (a .f)) (q .is));
-      fits = a .fits; shallow = omega (arith, a .shallow);
+      fits = a .fits;
+      shallow = omega (arith, a .shallow);
       small = omega (arith, q .small, extend-size (a .f) x, one-size u (last-node (a .f) x) (length (y .nodes)));
     }
 by-head (Two b) r ih us ds vs x o e =
@@ -267,9 +275,11 @@ by-head (Two b) r ih us ds vs x o e =
     let j = last-node (c .f) y in
     let q = i-makes (Two b) (c .rest) ds (j ∷ i ∷ vs) r z o (form-goes r (a .rest) (makes (Two b) ∷ ds) (i ∷ vs) y o c ea) in
     record {
-      f = two b (a .f) (c .f); rest = q .rest;
+      f = two b (a .f) (c .f);
+      rest = q .rest;
       is = ap (λ l. open-bracket ∷ word (binary-word b) ∷ l) (a .is ∙ ap (spell (a .f)) (c .is ∙ ap (spell (c .f)) (q .is)));
-      fits = (a .fits, c .fits); shallow = omega (arith, a .shallow, c .shallow);
+      fits = (a .fits, c .fits);
+      shallow = omega (arith, a .shallow, c .shallow);
       small = omega (arith, q .small, extend-size (a .f) x, extend-size (c .f) y, two-size b i j (length (z .nodes)));
     }
 

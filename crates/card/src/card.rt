@@ -3,16 +3,16 @@ ghost use mathlib.Core.Path.{_≡_};
 ghost use Rattle.card.specs.Cards.{said, Decided, Lined-fault};
 ghost use Rattle.card.specs.Holding.{scanned};
 ghost use Rattle.card.specs.Reading.{reading};
-use syntax::LineFault;
-use syntax::LineFromToken;
-use syntax::Names;
 use crate::reader::Draft;
 use crate::reader::Reader;
 use fixed_vec::FixedVec;
-use lexer::check_length;
 use lexer::Lexer;
+use lexer::check_length;
 use rule::Node;
 use rule::Table;
+use syntax::LineFault;
+use syntax::LineFromToken;
+use syntax::Names;
 
 /// What an accepted card says: the names of its signals, and its rule as a table. The table's
 /// places are the card's sessions.
@@ -27,8 +27,15 @@ fn scan(card: &[u8]) -> Result<Draft, LineFault>
     ensures { λ r. ⌜ scanned r ≡ reading (now (card .entry)) ⌝ }
 {
     check_length(card)?;
-    let draft = Draft { sessions: 0, names: Names::new(), nodes: FixedVec::new(Node::True) };
-    let mut reader = Reader { lexer: Lexer::new(card), draft };
+    let draft = Draft {
+        sessions: 0,
+        names: Names::new(),
+        nodes: FixedVec::new(Node::True),
+    };
+    let mut reader = Reader {
+        lexer: Lexer::new(card),
+        draft,
+    };
     reader.lines()?;
     Ok(reader.draft)
 }
@@ -43,7 +50,11 @@ pub fn read(card: &[u8]) -> Result<Card, LineFault>
     ensures grammar { λ r. ⌜ Decided (now (card .entry)) r ⌝ }
     ensures lines { λ r. ⌜ Lined-fault (now (card .entry)) r ⌝ }
 {
-    let Draft { sessions, names, nodes } = scan(card)?;
+    let Draft {
+        sessions,
+        names,
+        nodes,
+    } = scan(card)?;
     match Table::new(sessions as usize, nodes.as_slice()) {
         Some(table) => Ok(Card { names, table }),
         None => unreachable(),

@@ -16,18 +16,18 @@ ghost use Rattle.card.specs.Holding.{from, from-token, after-form, drafted, st
 ghost use Rattle.card.specs.Layout.{arity, head-nodes};
 ghost use Rattle.card.specs.Reading as due;
 ghost use Rattle.card.specs.Reading.{Due, refused, run};
-use syntax::FormFault;
-use syntax::FormFromToken;
-use syntax::head_of;
-use syntax::Binary;
-use syntax::Head;
-use syntax::Unary;
 use crate::reader::Reader;
 use lexer::Position;
 use lexer::Spot;
 use lexer::Token;
 use lexer::TokenFault;
 use rule::Node;
+use syntax::Binary;
+use syntax::FormFault;
+use syntax::FormFromToken;
+use syntax::Head;
+use syntax::Unary;
+use syntax::head_of;
 
 /// The most differences that `near` may allow.
 const MOST_DIFFERENCES: u16 = 32;
@@ -179,7 +179,14 @@ impl<'a> Reader<'a> {
     }
 
     /// What follows the first name of `near`: further names, and the closing bracket.
-    fn names(&mut self, room: u8, first: u8, second: u8, limit: u32, start: u32) -> Result<u8, FormFault>
+    fn names(
+        &mut self,
+        room: u8,
+        first: u8,
+        second: u8,
+        limit: u32,
+        start: u32,
+    ) -> Result<u8, FormFault>
         ensures { λ r. ⌜ ((ds : List Due) (vs : List ℕ) → from (now (self .entry)) (due.names ∷ ds) (start ∷ limit ∷ second ∷ first ∷ vs) room ≡ after-form r (λ i. from (now (self .exit)) ds (i ∷ vs) (room + 1))) ⌝ }
     {
         let mut mask = start;
@@ -190,7 +197,15 @@ impl<'a> Reader<'a> {
                     Some(signal) => mask |= bit(signal),
                     None => return Err(FormFault::Name(spot.at)),
                 },
-                Token::Close => return self.add(spot.at, &[Node::Near { first, second, limit, mask }]),
+                Token::Close => return self.add(
+                    spot.at,
+                    &[Node::Near {
+                        first,
+                        second,
+                        limit,
+                        mask,
+                    }],
+                ),
                 _ => return Err(stray(spot, room)),
             }
         }
@@ -237,7 +252,15 @@ impl<'a> Reader<'a> {
         match unary {
             Unary::Not => self.close(room, &[Node::Not(f)]),
             Unary::Next => self.close(room, &[Node::Next(f)]),
-            Unary::Always => self.close(room, &[Node::True, Node::Not(f), Node::Until(n, n + 1), Node::Not(n + 2)]),
+            Unary::Always => self.close(
+                room,
+                &[
+                    Node::True,
+                    Node::Not(f),
+                    Node::Until(n, n + 1),
+                    Node::Not(n + 2),
+                ],
+            ),
         }
     }
 
@@ -254,11 +277,29 @@ impl<'a> Reader<'a> {
             Binary::Until => self.close(room, &[Node::Until(f, g)]),
             Binary::Iff => {
                 let neither = Node::And(n + 1, n + 2);
-                self.close(room, &[Node::And(f, g), Node::Not(f), Node::Not(g), neither, Node::Or(n, n + 3)])
+                self.close(
+                    room,
+                    &[
+                        Node::And(f, g),
+                        Node::Not(f),
+                        Node::Not(g),
+                        neither,
+                        Node::Or(n, n + 3),
+                    ],
+                )
             }
             Binary::Weak => {
                 let broken = Node::Until(n + 1, n + 2);
-                self.close(room, &[Node::Not(f), Node::Not(g), Node::And(n, n + 1), broken, Node::Not(n + 3)])
+                self.close(
+                    room,
+                    &[
+                        Node::Not(f),
+                        Node::Not(g),
+                        Node::And(n, n + 1),
+                        broken,
+                        Node::Not(n + 3),
+                    ],
+                )
             }
         }
     }

@@ -8,14 +8,14 @@ ghost use Rattle.syntax.specs.declared.head.Topic.the-variants as topic;
 ghost use Rattle.card.specs.Holding.{from, from-topic, after-line, drafted};
 ghost use Rattle.card.specs.Reading as due;
 ghost use Rattle.card.specs.Reading.{Due, accepted};
+use crate::reader::Reader;
+use lexer::Token;
 use syntax::LineFault;
 use syntax::LineFromForm;
 use syntax::LineFromToken;
+use syntax::Topic;
 use syntax::is_sessions;
 use syntax::topic_of;
-use syntax::Topic;
-use crate::reader::Reader;
-use lexer::Token;
 
 /// The most sessions that a rule speaks of.
 const MOST_SESSIONS: u16 = 4;

@@ -1,7 +1,7 @@
-use syntax::Names;
 use fixed_vec::FixedVec;
 use lexer::Lexer;
 use rule::Node;
+use syntax::Names;
 
 /// What the tokens of a card have said so far.
 #[derive(Clone, Copy)]

@@ -14,7 +14,7 @@ module _ {T : Type 0} (was held after items : List T) (i most : ℕ) (d : T) (r 
   one-more h room e t a =
       let x = getD items i d in
       let n : length held ≡ length was + i =
-        ap length e ∙ length-append was (take i items) ∙ ap (λ m. length was + m) (length-take-le i items (omega arith)) in
+      ap length e ∙ length-append was (take i items) ∙ ap (λ m. length was + m) (length-take-le i items (omega arith)) in
       pushed held x most (omega arith) t a
       ∙ ap (λ l. l ++ (x ∷ [])) e
       ∙ append-assoc was (take i items) (x ∷ [])

@@ -1,8 +1,10 @@
 ghost use mathlib.Core.Path.{_≡_};
 ghost use Prim.Native.Nat.{_≤_};
 ghost use lib.ListN.{length};
+
 mod extend;
 mod methods;
+
 use std::alloc::AllocError;
 
 /// A list of at most `N` items, in place.

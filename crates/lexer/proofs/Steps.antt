@@ -34,13 +34,16 @@ through p (b ∷ bs) = go (kind b) refl (through (forward 1 p) bs)
   where
     P : Kind → Type 0
     P j = put p (begins j true p (b ∷ bs)) (tokens (wordy j) (after j p) bs) ≡ tokens false (forward (cond (wordy j) (suc (span bs)) 0) p) (drop (cond (wordy j) (suc (span bs)) 0) (b ∷ bs))
+
     stay : (k : Kind) → kind b ≡ k → put p (begins k true p (b ∷ bs)) (tokens (wordy k) (after k p) bs) ≡ put p (begins k false p (b ∷ bs)) (tokens (wordy k) (after k p) bs) → put p (begins k true p (b ∷ bs)) (tokens (wordy k) (after k p) bs) ≡ tokens false (forward 0 p) (b ∷ bs)
     stay k e q =
         q
         ∙ subst (λ j. put p (begins j false p (b ∷ bs)) (tokens (wordy j) (after j p) bs) ≡ tokens false p (b ∷ bs)) e refl
         ∙ ap (λ n. tokens false (record { place = n; line = p .line }) (b ∷ bs)) (sym (add-zero (p .place)))
+
     far : tokens true (forward 1 p) bs ≡ tokens false (forward (span bs) (forward 1 p)) (drop (span bs) bs) → tokens true (forward 1 p) bs ≡ tokens false (forward (suc (span bs)) p) (drop (span bs) bs)
     far ih = ih ∙ ap (λ n. tokens false (record { place = n; line = p .line }) (drop (span bs) bs)) (omega arith)
+
     go : (k : Kind) → kind b ≡ k → tokens true (forward 1 p) bs ≡ tokens false (forward (span bs) (forward 1 p)) (drop (span bs) bs) → P (kind b)
     go Space e ih = subst P (sym e) (stay Space e refl)
     go Open e ih = subst P (sym e) (stay Open e refl)

@@ -5,10 +5,10 @@ ghost use lib.ListN.{length, getD, drop};
 ghost use Rattle.lexer.specs.Tokens.{kind, span};
 ghost use Rattle.lexer.specs.Places.{tokens-at, forward};
 use crate::fault::Position;
-use crate::kind::is_wordy;
-use crate::kind::kind_of;
 use crate::kind::Kind;
 use crate::kind::KindPartialEq;
+use crate::kind::is_wordy;
+use crate::kind::kind_of;
 
 /// The first place from `at` on that holds no space.
 pub(crate) fn skip_spaces(card: &[u8], at: Position) -> Position
@@ -23,7 +23,10 @@ pub(crate) fn skip_spaces(card: &[u8], at: Position) -> Position
     while place < card.len() && kind_of(card[place]) == Kind::Space {
         place += 1;
     }
-    Position { place, line: at.line }
+    Position {
+        place,
+        line: at.line,
+    }
 }
 
 /// The place after the letters and digits that begin at `place`.

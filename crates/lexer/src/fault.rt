@@ -28,6 +28,15 @@ pub struct Report {
     pub layer: Layer,
 }
 
+impl Report {
+    /// The report of these parts.
+    pub fn new(number: u8, at: Position, layer: Layer) -> Report
+        ensures { λ r. ⌜ r ≡ record { number = number; at = at; layer = layer } ⌝ }
+    {
+        Report { number, at, layer }
+    }
+}
+
 /// Why bytes make no token.
 #[derive(Clone, Copy)]
 pub enum TokenFault {
@@ -46,11 +55,14 @@ impl TokenFault {
     {
         match self {
             TokenFault::Long => {
-                let at = Position { place: MOST_BYTES, line: 1 };
-                Report { number: 1, at, layer: Layer::Token }
+                let at = Position {
+                    place: MOST_BYTES,
+                    line: 1,
+                };
+                Report::new(1, at, Layer::Token)
             }
-            TokenFault::Byte(at) => Report { number: 2, at, layer: Layer::Token },
-            TokenFault::Run(at) => Report { number: 2, at, layer: Layer::Token },
+            TokenFault::Byte(at) => Report::new(2, at, Layer::Token),
+            TokenFault::Run(at) => Report::new(2, at, Layer::Token),
         }
     }
 }

@@ -1,7 +1,9 @@
 ghost use Prim.Native.Nat.{_+_, _≤_};
 ghost use denote.Ref.{now as held};
 ghost use lib.ListN.{length};
+
 mod methods;
+
 use crate::fault::Position;
 
 /// A card, and how far its tokens are read.

@@ -32,15 +32,14 @@ module _ (n : ℕ) (digits : List ℕ) (start rest : ℕ) (fits : n < 2 ^ 64) (i
 
   pub one-more : 10 ≤ rest → Spelled n (set digits (start - 1) (48 + rest % 10)) (start - 1) (rest / 10)
   one-more h =
-      let d = 48 + rest % 10 in
-      (
+      let d = 48 + rest % 10 in (
         length-set digits (start - 1) d ∙ inv .0,
         omega (arith, inv .1),
         omega (arith, inv .2),
         ap (λ l. decimal (rest / 10) ++ l) (written d)
-        ∙ sym (append-assoc (decimal (rest / 10)) (d ∷ []) (drop start digits))
-        ∙ ap (λ l. l ++ drop start digits) (sym (decimal-step rest h (omega (arith, inv .2))))
-        ∙ inv .3,
+            ∙ sym (append-assoc (decimal (rest / 10)) (d ∷ []) (drop start digits))
+            ∙ ap (λ l. l ++ drop start digits) (sym (decimal-step rest h (omega (arith, inv .2))))
+            ∙ inv .3,
       )
 
   -- all digits, as the part of the buffer that is lent

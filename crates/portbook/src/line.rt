@@ -31,10 +31,20 @@ pub(crate) fn line_of(card: &[u8]) -> FixedVec<u8, 64>
     ensures { λ r. ⌜ items-of r ≡ card-line (reading (now (card .entry))) ⌝ }
 {
     match read(card) {
-        Ok(card) => three_numbers(b"card", card.table.places(), card.names.len(), card.table.nodes().len()),
+        Ok(card) => three_numbers(
+            b"card",
+            card.table.places(),
+            card.names.len(),
+            card.table.nodes().len(),
+        ),
         Err(fault) => {
             let report = fault.report();
-            three_numbers(b"fault", report.number as usize, report.at.line, report.at.place)
+            three_numbers(
+                b"fault",
+                report.number as usize,
+                report.at.line,
+                report.at.place,
+            )
         }
     }
 }

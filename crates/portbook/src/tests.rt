@@ -24,7 +24,8 @@ fn line_is(card: &[u8], wanted: &[u8]) -> bool {
 
 #[test]
 fn the_sample_card() -> Result<(), Fail> {
-    let card = b"(sessions 2)\n(signal tariff)\n(signal load)\n(signal feed)\n(rule (weak (near 1 2 0 feed) (not (near 1 2 0 tariff))))\n";
+    let card =
+        b"(sessions 2)\n(signal tariff)\n(signal load)\n(signal feed)\n(rule (weak (near 1 2 0 feed) (not (near 1 2 0 tariff))))\n";
     check(line_is(card, b"(card 2 3 8)\n"))
 }
 

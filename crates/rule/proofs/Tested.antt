@@ -32,5 +32,5 @@ table-decides k ns =
     (λ p. record { some = p .0; few = p .1 .0; low = p .1 .1 .0; high = p .1 .1 .1 .0; each = p .1 .1 .1 .1 })
     (λ f. (f .some, (f .few, (f .low, (f .high, f .each)))))
     (decides-and _ _ (leb-decides 1 (length ns)) (decides-and _ _ (leb-decides (length ns) 64) (decides-and _ _ (leb-decides 1 k) (decides-and _ _ (leb-decides k 4)
-      (decides-below-and (λ i. node-test k i (getD ns i True)) (λ i. Node-fits k i (getD ns i True)) (λ n. all-below n (λ i. node-test k i (getD ns i True)))
-        (λ i. node-decides k i (getD ns i True)) refl (λ _. refl) (length ns))))))
+    (decides-below-and (λ i. node-test k i (getD ns i True)) (λ i. Node-fits k i (getD ns i True)) (λ n. all-below n (λ i. node-test k i (getD ns i True)))
+    (λ i. node-decides k i (getD ns i True)) refl (λ _. refl) (length ns))))))

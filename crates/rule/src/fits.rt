@@ -21,7 +21,12 @@ fn node_fits(places: usize, index: usize, node: Node) -> bool
     match node {
         Node::True => true,
         Node::At { place, signal } => ((place as usize) < places) & (signal < SIGNALS),
-        Node::Near { first, second, limit: _, mask: _ } => ((first as usize) < places) & ((second as usize) < places),
+        Node::Near {
+            first,
+            second,
+            limit: _,
+            mask: _,
+        } => ((first as usize) < places) & ((second as usize) < places),
         Node::Not(f) => (f as usize) < index,
         Node::And(f, g) => ((f as usize) < index) & ((g as usize) < index),
         Node::Or(f, g) => ((f as usize) < index) & ((g as usize) < index),

@@ -5,9 +5,17 @@ pub enum Node {
     /// It holds at every step.
     True,
     /// The signal is on in the letter of the place.
-    At { place: u8, signal: u8 },
+    At {
+        place: u8,
+        signal: u8,
+    },
     /// The letters of the two places differ in at most `limit` of the signals of the mask.
-    Near { first: u8, second: u8, limit: u32, mask: u32 },
+    Near {
+        first: u8,
+        second: u8,
+        limit: u32,
+        mask: u32,
+    },
     /// The node does not hold.
     Not(u8),
     /// Both nodes hold.

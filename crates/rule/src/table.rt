@@ -2,7 +2,9 @@ ghost use mathlib.Core.Bool.{true};
 ghost use mathlib.Core.Path.{_≡_};
 ghost use Rattle.fixed_vec.specs.Items.{items-of};
 ghost use Rattle.rule.specs.Testing.{table-test};
+
 mod methods;
+
 use crate::node::Node;
 use fixed_vec::FixedVec;
 

@@ -71,11 +71,11 @@ impl FormFault {
     {
         match self {
             FormFault::Token(fault) => fault.report(),
-            FormFault::Stray(at) => Report { number: 3, at, layer: Layer::Form },
-            FormFault::Deep(at) => Report { number: 4, at, layer: Layer::Form },
-            FormFault::Name(at) => Report { number: 5, at, layer: Layer::Form },
-            FormFault::Range(at) => Report { number: 6, at, layer: Layer::Form },
-            FormFault::Nodes(at) => Report { number: 7, at, layer: Layer::Form },
+            FormFault::Stray(at) => Report::new(3, at, Layer::Form),
+            FormFault::Deep(at) => Report::new(4, at, Layer::Form),
+            FormFault::Name(at) => Report::new(5, at, Layer::Form),
+            FormFault::Range(at) => Report::new(6, at, Layer::Form),
+            FormFault::Nodes(at) => Report::new(7, at, Layer::Form),
         }
     }
 }
@@ -88,9 +88,9 @@ impl LineFault {
         match self {
             LineFault::Token(fault) => fault.report(),
             LineFault::Form(fault) => fault.report(),
-            LineFault::Stray(at) => Report { number: 3, at, layer: Layer::Line },
-            LineFault::Name(at) => Report { number: 5, at, layer: Layer::Line },
-            LineFault::Range(at) => Report { number: 6, at, layer: Layer::Line },
+            LineFault::Stray(at) => Report::new(3, at, Layer::Line),
+            LineFault::Name(at) => Report::new(5, at, Layer::Line),
+            LineFault::Range(at) => Report::new(6, at, Layer::Line),
         }
     }
 }

@@ -52,7 +52,8 @@ impl Names {
     pub fn new() -> Names
         ensures { λ r. ⌜ names-of r ≡ [] ⌝ }
     {
-        Names { names: FixedVec::new(FixedVec::new(0)) }
+        let names = FixedVec::new(FixedVec::new(0));
+        Names { names }
     }
 
     /// How many names there are.

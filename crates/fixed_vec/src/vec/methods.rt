@@ -12,7 +12,10 @@ impl<T: Copy, const N: usize> FixedVec<T, N> {
     pub fn new(filler: T) -> FixedVec<T, N>
         ensures { λ r. ⌜ items-of r ≡ [] ⌝ }
     {
-        FixedVec { items: [filler; N], len: 0 }
+        FixedVec {
+            items: [filler; N],
+            len: 0,
+        }
     }
 
     /// How many items there are.

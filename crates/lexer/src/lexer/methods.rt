@@ -10,8 +10,8 @@ use crate::bytes::run_end;
 use crate::bytes::skip_spaces;
 use crate::fault::Position;
 use crate::fault::TokenFault;
-use crate::kind::kind_of;
 use crate::kind::Kind;
+use crate::kind::kind_of;
 use crate::lexer::Lexer;
 use crate::number::number;
 use crate::token::Spot;
@@ -33,18 +33,33 @@ fn token_at<'a>(card: &'a [u8], at: Position) -> Result<(Token<'a>, Position), T
     if place >= card.len() {
         return Ok((Token::End, at));
     }
-    let after = Position { place: place + 1, line };
+    let after = Position {
+        place: place + 1,
+        line,
+    };
     match kind_of(card[place]) {
         Kind::Open => Ok((Token::Open, after)),
         Kind::Close => Ok((Token::Close, after)),
-        Kind::LineEnd => Ok((Token::LineEnd, Position { place: place + 1, line: line + 1 })),
+        Kind::LineEnd => Ok((
+            Token::LineEnd,
+            Position {
+                place: place + 1,
+                line: line + 1,
+            },
+        )),
         Kind::Letter => {
             let end = run_end(card, place);
             if end - place > MOST_LETTERS {
                 return Err(TokenFault::Run(at));
             }
             let text = &card[place..end];
-            Ok((Token::Word { text, offset: place }, Position { place: end, line }))
+            Ok((
+                Token::Word {
+                    text,
+                    offset: place,
+                },
+                Position { place: end, line },
+            ))
         }
         Kind::Digit => {
             let end = run_end(card, place);
@@ -63,7 +78,10 @@ impl<'a> Lexer<'a> {
         ensures left { λ r. ⌜ left r ≡ card-tokens (now (card .entry)) ⌝ }
         ensures card { λ r. ⌜ r .card ≡ card .entry ⌝ }
     {
-        Lexer { card, at: Position { place: 0, line: 1 } }
+        Lexer {
+            card,
+            at: Position { place: 0, line: 1 },
+        }
     }
 
     /// The next token. After a fault, and at the card's end, the same answer comes again.

@@ -18,7 +18,10 @@ impl Table {
         }
         let mut kept = FixedVec::new(Node::True);
         kept.extend(nodes);
-        Some(Table { places, nodes: kept })
+        Some(Table {
+            places,
+            nodes: kept,
+        })
     }
 
     /// How many sessions the rule speaks of.

@@ -61,7 +61,7 @@ returns-in-Break-sessions c =
     let p = err-from-errBy (c .from-residual .result) (c .from-residual .ensures .1) in
     let e : c .from-residual .result ≡ Err (c .in-Break-sessions .field-0 .0) = p .1 ∙ ap Err (p .2) in
     let a : Answer (c .args .card .now) (c .from-residual .result) =
-      subst (Answer (c .args .card .now)) (sym e) (fault (c .args .card .now) (c .in-Break-sessions .field-0 .0) (c .in-Break-sessions .ensures tt)) in
+    subst (Answer (c .args .card .now)) (sym e) (fault (c .args .card .now) (c .in-Break-sessions .field-0 .0) (c .in-Break-sessions .ensures tt)) in
     record { exact = a .exact; grammar = a .grammar; lines = a .lines }
 
 pub unreachable-requires : need.unreachable-requires
@@ -70,7 +70,7 @@ unreachable-requires c κs =
     let x = drafted (c .in-Continue-sessions .field-0) in
     c .in-None .ensures tt
     (subst (λ (ns : List Node). Table-fits (x .sessions) ns) (sym (c .as-slice .ensures .value))
-      (accepted-fits bytes x (accepted-card bytes x (sym (c .in-Continue-sessions .ensures tt)))))
+    (accepted-fits bytes x (accepted-card bytes x (sym (c .in-Continue-sessions .ensures tt)))))
 
 pub returns : need.returns
 returns c =

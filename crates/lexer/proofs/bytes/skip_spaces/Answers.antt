@@ -8,8 +8,7 @@ use Rattle.lexer.proofs.bytes.skip_spaces.Needs as need
 pub loop-place-again : need.loop-place-again
 loop-place-again c =
     let here : Position = record { place = c .loop-place .place; line = c .args .at .line } in
-    let is-space = sym (sym (c .kind-of .ensures) ∙ c .if-eq .ensures tt) in
-    (
+    let is-space = sym (sym (c .kind-of .ensures) ∙ c .if-eq .ensures tt) in (
       sym (at-kind (c .args .card .now) here Space (c .loop-place-test .taken) is-space) ∙ c .loop-place .inv .0,
       omega arith,
       omega arith,

@@ -24,15 +24,14 @@ returns-in-Break-value c =
 pub loop-byte-again : need.loop-byte-again
 loop-byte-again c =
     let v = c .loop-byte .value in
-    let d = c .in-Continue-value .ensures tt in
-    (
+    let d = c .in-Continue-value .ensures tt in (
       omega (arith, d),
       omega (arith, d),
       omega (arith, d),
       omega (arith, d),
       ap (λ n. digits-after (v * 10 + n) (drop (c .loop-byte .byte-index + 1) (c .args .digits .now))) (d .1)
-      ∙ sym (step v (c .args .digits .now) (c .loop-byte .byte-index) true (c .loop-byte-test .taken) (d .0))
-      ∙ c .loop-byte .inv .4,
+          ∙ sym (step v (c .args .digits .now) (c .loop-byte .byte-index) true (c .loop-byte-test .taken) (d .0))
+          ∙ c .loop-byte .inv .4,
     )
 
 pub returns : need.returns

@@ -8,8 +8,8 @@ use Rattle.portbook.proofs.decimal.put_number.Needs as need
 pub returns : need.returns
 returns c = record {
   after =
-    c .put-decimal .ensures .after
-    ∙ ap (λ l. l ++ decimal (c .args .number)) (c .put .ensures .after)
-    ∙ append-assoc (items-of (c .args .line .now)) (32 ∷ []) (decimal (c .args .number));
+      c .put-decimal .ensures .after
+      ∙ ap (λ l. l ++ decimal (c .args .number)) (c .put .ensures .after)
+      ∙ append-assoc (items-of (c .args .line .now)) (32 ∷ []) (decimal (c .args .number));
   length = omega arith;
 }

@@ -75,8 +75,8 @@ returns-in-None c = record {
 pub returns-in-Space : need.returns-in-Space
 returns-in-Space c = record {
   reads = elim (c .in-Space .is) [
-    inl e ↦ absurd (c .pre .dark (c .if-place-card .left) (sym (c .kind-of .ensures) ∙ e))
-  | inr e ↦ at-kind (c .args .card .now) (c .args .at) Other (c .if-place-card .left) (sym e ∙ c .kind-of .ensures)
+    | inl e ↦ absurd (c .pre .dark (c .if-place-card .left) (sym (c .kind-of .ensures) ∙ e))
+    | inr e ↦ at-kind (c .args .card .now) (c .args .at) Other (c .if-place-card .left) (sym e ∙ c .kind-of .ensures)
   ];
   ends = tt;
   part = tt;

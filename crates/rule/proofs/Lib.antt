@@ -1,2 +1,2 @@
-mod Tested
+pub mod Tested
 pub mod Unfold

@@ -1,4 +1,7 @@
 pub mod Rule
+pub mod Meaning
+pub mod Standing
 pub mod Nodes
+pub mod Ways
 pub mod Testing
 pub mod Tables

@@ -1,9 +1,10 @@
 -- The same as `Table-fits` by a test, which a struct's invariant can hold.
 use mathlib.Core.List.{List}
 use mathlib.Core.Bool.{Bool, true, _&&_}
-use Prim.Native.Nat.{ℕ, zero, suc}
+use Prim.Native.Nat.{ℕ}
 use lib.Dec.{leb, ltb}
 use lib.ListN.{length, getD}
+use Rattle.policy.specs.Testing.{all-below}
 use Rattle.rule.specs.declared.node.Node.{Node}
 use Rattle.rule.specs.declared.node.Node.the-variants.{True, At, Near, Not, And, Or, Next, Until}
 
@@ -16,10 +17,6 @@ node-test k i (And f g) = ltb f i && ltb g i
 node-test k i (Or f g) = ltb f i && ltb g i
 node-test k i (Next f) = ltb f i
 node-test k i (Until f g) = ltb f i && ltb g i
-
-abbrev pub all-below : ℕ → (ℕ → Bool) → Bool
-all-below zero test = true
-all-below (suc n) test = test n && all-below n test
 
 unfoldable pub table-test : ℕ → List Node → Bool
 table-test k ns =

@@ -1,0 +1,5 @@
+mod Stepping
+mod Running
+mod Unions
+mod Ranges
+mod Judged

@@ -1,0 +1,4 @@
+pub mod Runs
+pub mod Refusing
+pub mod Testing
+pub mod Automata

@@ -1,0 +1,5 @@
+pub mod Sessions
+pub mod Standing
+pub mod Policy
+pub mod Pairing
+pub mod Testing

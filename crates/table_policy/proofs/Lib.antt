@@ -1,0 +1,6 @@
+mod Signals
+mod Deciding
+mod Reached
+mod Rows
+mod Substituting
+mod Judged

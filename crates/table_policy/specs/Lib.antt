@@ -1,0 +1,4 @@
+pub mod Evaluating
+pub mod Masks
+pub mod Tables
+pub mod inner

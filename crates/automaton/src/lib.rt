@@ -1,4 +1,6 @@
 //! Policies given as automata by rows.
+#![tactic(auto)]
+
 mod automaton;
 mod edge;
 mod range;

@@ -1,4 +1,6 @@
 //! The reader of cards.
+#![tactic(auto)]
+
 mod card;
 mod form;
 mod line;

@@ -1,4 +1,6 @@
 //! Sessions, tuples of sessions, and what a policy is.
+#![tactic(auto)]
+
 mod pair;
 mod policy;
 mod session;

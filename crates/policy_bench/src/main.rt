@@ -1,5 +1,7 @@
 //! How long the engine takes for one node at one step. Run with the word `time` for the times; on
 //! its own it prints only how many tuples broke each rule, which is the same on each run.
+#![tactic(auto)]
+
 mod tables;
 mod words;
 

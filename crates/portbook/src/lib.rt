@@ -1,4 +1,6 @@
 //! The entries that C calls.
+#![tactic(auto)]
+
 mod decimal;
 mod entry;
 mod line;

@@ -1,4 +1,6 @@
 //! Prints the line of the card in `card.txt`.
+#![tactic(auto)]
+
 ghost use Rattle.std.specs.Prelude.{◌≡◌, ◌≤◌, length};
 
 use portbook::portbook_card_line;

@@ -1,4 +1,6 @@
 //! Rules as formula tables: the nodes of a table, and the table with its invariant.
+#![tactic(auto)]
+
 mod fits;
 mod node;
 mod table;

@@ -1,5 +1,7 @@
 //! A second evaluator beside the engine, on samples and on rules, automata and pairs that look
 //! random.
+#![tactic(auto)]
+
 mod automata;
 mod card_text;
 mod compare;

@@ -1,4 +1,6 @@
 //! Stores of sessions, over memory that the caller moves in.
+#![tactic(auto)]
+
 mod arena;
 mod layout;
 mod leaving;

@@ -1,5 +1,7 @@
 //! Plays long random lists of calls on both stores beside a plain model, and counts where an
 //! answer, an entry, a buffer or the memory differs from what the model says.
+#![tactic(auto)]
+
 mod model;
 mod play;
 mod random;

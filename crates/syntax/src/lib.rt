@@ -1,4 +1,6 @@
 //! The words of cards, the names of signals, and the faults of forms and lines.
+#![tactic(auto)]
+
 mod fault;
 mod head;
 mod names;

@@ -1,4 +1,6 @@
 //! The policy of a formula table: its engine, and the signals by which a session stands for another.
+#![tactic(auto)]
+
 mod engine;
 mod masks;
 mod policy;

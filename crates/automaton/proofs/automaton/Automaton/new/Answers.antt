@@ -13,8 +13,8 @@ pub returns-then-not-in-range : goal.returns-then-not-in-range
 returns-then-not-in-range c =
     λ fits. not_from_Decides c.in-range.result c.in-range.ensures c.if-not-in-range.true (fits_range c.args.places c.args.states c.args.good c.args.edges.now fits)
 
-pub invariant-of-result : goal.invariant-of-result
-invariant-of-result c =
+pub invariant_of-result : goal.invariant_of-result
+invariant_of-result c =
     let k = c.args.places in
     let es = c.args.edges.now in
     let range = c.in-range.ensures.0 c.if-not-in-range.false in

@@ -6,8 +6,8 @@ use Rattle.rule.specs.Testing.{table_test}
 use Rattle.rule.proofs.Tested.{table_decides}
 use Rattle.rule.proofs.table.Table.new.Goals as goal
 
-pub invariant-of-result : goal.invariant-of-result
-invariant-of-result c =
+pub invariant_of-result : goal.invariant_of-result
+invariant_of-result c =
     let k = c.args.places in
     let ns = c.args.nodes.now in
     let fits = c.table-fits.ensures.0 c.if-not-table-fits.false in

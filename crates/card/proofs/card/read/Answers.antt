@@ -51,26 +51,26 @@ card bytes x t ns e n h =
       lines = tt;
     }
 
-pub returns-in-err-sessions : goal.returns-in-err-sessions
-returns-in-err-sessions c =
-    let p = err_from_is_err_and c.from-residual.result c.from-residual.ensures.1 in
-    let e : c.from-residual.result ≡ Err c.in-err-sessions.field-0.0 = p.1 ∙ ap Err p.2 in
-    let a : Answer c.args.card.now c.from-residual.result =
-    subst (Answer c.args.card.now) (sym e) (fault c.args.card.now c.in-err-sessions.field-0.0 c.in-err-sessions.ensures) in
+pub returns-in_err-sessions : goal.returns-in_err-sessions
+returns-in_err-sessions c =
+    let p = err_from_is_err_and c.from_residual.result c.from_residual.ensures.1 in
+    let e : c.from_residual.result ≡ Err c.in_err-sessions.field-0.0 = p.1 ∙ ap Err p.2 in
+    let a : Answer c.args.card.now c.from_residual.result =
+    subst (Answer c.args.card.now) (sym e) (fault c.args.card.now c.in_err-sessions.field-0.0 c.in_err-sessions.ensures) in
     record { exact = a.exact; grammar = a.grammar; lines = a.lines }
 
 pub unreachable-requires : goal.unreachable-requires
 unreachable-requires c =
     let bytes = c.args.card.now in
-    let x = drafted c.in-ok-sessions.field-0 in
+    let x = drafted c.in_ok-sessions.field-0 in
     c.in-None.ensures
-    (subst (λ (ns : List Node). TableFits x.sessions ns) (sym c.as-slice.ensures.value)
-    (accepted_fits bytes x (accepted_card bytes x (sym c.in-ok-sessions.ensures))))
+    (subst (λ (ns : List Node). TableFits x.sessions ns) (sym c.as_slice.ensures.value)
+    (accepted_fits bytes x (accepted_card bytes x (sym c.in_ok-sessions.ensures))))
 
 pub returns : goal.returns
 returns c =
     let bytes = c.args.card.now in
-    let x = drafted c.in-ok-sessions.field-0 in
-    let held = subst (λ (ns : List Node). HoldsNodes x.sessions ns c.in-Some.table) c.as-slice.ensures.value c.in-Some.ensures in
-    let a = card bytes x c.in-Some.table c.in-ok-sessions.field-0.names c.in-ok-sessions.ensures refl held in
+    let x = drafted c.in_ok-sessions.field-0 in
+    let held = subst (λ (ns : List Node). HoldsNodes x.sessions ns c.in-Some.table) c.as_slice.ensures.value c.in-Some.ensures in
+    let a = card bytes x c.in-Some.table c.in_ok-sessions.field-0.names c.in_ok-sessions.ensures refl held in
     record { exact = a.exact; grammar = a.grammar; lines = tt }

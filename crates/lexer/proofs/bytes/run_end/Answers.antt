@@ -9,8 +9,8 @@ loop-end-preserved c =
     let e = at_drop_more span c.args.card.now c.loop-end.end 0 c.loop-end-test.true in
     (grind (arith, nat_tests), omega arith)
 
-pub returns-else-is-wordy : goal.returns-else-is-wordy
-returns-else-is-wordy c =
+pub returns-else-is_wordy : goal.returns-else-is_wordy
+returns-else-is_wordy c =
     let e = at_drop_more span c.args.card.now c.loop-end.end 0 c.loop-end-test.true in
     record { value = grind (arith, nat_tests); within = omega arith }
 

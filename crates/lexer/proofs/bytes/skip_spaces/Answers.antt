@@ -7,7 +7,7 @@ use Rattle.lexer.proofs.bytes.skip_spaces.Goals as goal
 pub loop-place-preserved : goal.loop-place-preserved
 loop-place-preserved c =
     let here : Position = record { place = c.loop-place.place; line = c.args.at.line } in
-    let is_space = sym (sym c.kind-of.ensures ∙ c.if-eq.ensures) in (
+    let is_space = sym (sym c.kind_of.ensures ∙ c.if-eq.ensures) in (
       sym (at_kind c.args.card.now here Space c.loop-place-test.true is_space) ∙ c.loop-place.invariant.0,
       omega arith,
       omega arith,

@@ -9,16 +9,16 @@ step v ds i b h e =
     at_drop_more (digits_after v) ds i 0 h
     ∙ ap (λ t. cond t (digits_after (v * 10 + (get_or ds i 0 - 48)) (drop (i + 1) ds)) None) e
 
-pub returns-in-err-value : goal.returns-in-err-value
-returns-in-err-value c =
-    c.from-residual.ensures
-    ∙ sym (step c.loop-byte.value c.args.digits.now c.loop-byte.byte-index false c.loop-byte-test.true c.in-err-value.ensures)
+pub returns-in_err-value : goal.returns-in_err-value
+returns-in_err-value c =
+    c.from_residual.ensures
+    ∙ sym (step c.loop-byte.value c.args.digits.now c.loop-byte.byte-index false c.loop-byte-test.true c.in_err-value.ensures)
     ∙ c.loop-byte.invariant.4
 
 pub loop-byte-preserved : goal.loop-byte-preserved
 loop-byte-preserved c =
     let v = c.loop-byte.value in
-    let d = c.in-ok-value.ensures in (
+    let d = c.in_ok-value.ensures in (
       omega (arith, d),
       omega (arith, d),
       omega (arith, d),

@@ -5,8 +5,8 @@ use Rattle.policy.proofs.tuple.is_tuple.Goals as goal
 
 pub returns-then-tuple-places : goal.returns-then-tuple-places
 returns-then-tuple-places c = (
-  λ e. (length-map c.args.tuple.now (λ x. x.now) ∙ c.if-tuple-places.true, λ v h. c.all-sessions.ensures.0 e v (omega arith)),
-  λ t. c.all-sessions.ensures.1 (λ v h. t.1 v (omega arith)),
+  λ e. (length-map c.args.tuple.now (λ x. x.now) ∙ c.if-tuple-places.true, λ v h. c.all_sessions.ensures.0 e v (omega arith)),
+  λ t. c.all_sessions.ensures.1 (λ v h. t.1 v (omega arith)),
 )
 
 pub returns-else-tuple-places : goal.returns-else-tuple-places

@@ -9,14 +9,14 @@ short n h = length-decimal-le 3 n (omega arith) (omega arith) (omega arith)
 long : (n : ℕ) → n < 2 ^ 64 → length (decimal n) ≤ 20
 long n h = length-decimal-le 20 n (omega arith) (omega arith) h
 
-pub put-number-requires : goal.put-number-requires
-put-number-requires c = omega (arith, ap length c.new-line.ensures, short c.args.a c.requires.small)
+pub put_number-requires : goal.put_number-requires
+put_number-requires c = omega (arith, ap length c.new-line.ensures, short c.args.a c.requires.small)
 
-pub put-number-requires-2 : goal.put-number-requires-2
-put-number-requires-2 c = omega (arith, ap length c.new-line.ensures, short c.args.a c.requires.small, long c.args.b c.ranges.b.fits)
+pub put_number-requires-2 : goal.put_number-requires-2
+put_number-requires-2 c = omega (arith, ap length c.new-line.ensures, short c.args.a c.requires.small, long c.args.b c.ranges.b.fits)
 
-pub put-number-requires-3 : goal.put-number-requires-3
-put-number-requires-3 c = omega (arith, ap length c.new-line.ensures, short c.args.a c.requires.small, long c.args.b c.ranges.b.fits, long c.args.c c.ranges.c.fits)
+pub put_number-requires-3 : goal.put_number-requires-3
+put_number-requires-3 c = omega (arith, ap length c.new-line.ensures, short c.args.a c.requires.small, long c.args.b c.ranges.b.fits, long c.args.c c.ranges.c.fits)
 
 pub put-requires-3 : goal.put-requires-3
 put-requires-3 c = omega (arith, ap length c.new-line.ensures, short c.args.a c.requires.small, long c.args.b c.ranges.b.fits, long c.args.c c.ranges.c.fits)
@@ -24,9 +24,9 @@ put-requires-3 c = omega (arith, ap length c.new-line.ensures, short c.args.a c.
 pub returns : goal.returns
 returns c =
     c.put-3.ensures.after
-    ∙ ap (λ l. l ++ (41 ∷ 10 ∷ [])) (c.put-number-3.ensures.after
-    ∙ ap (λ l. l ++ spaced c.args.c) (c.put-number-2.ensures.after
-    ∙ ap (λ l. l ++ spaced c.args.b) (c.put-number.ensures.after
+    ∙ ap (λ l. l ++ (41 ∷ 10 ∷ [])) (c.put_number-3.ensures.after
+    ∙ ap (λ l. l ++ spaced c.args.c) (c.put_number-2.ensures.after
+    ∙ ap (λ l. l ++ spaced c.args.b) (c.put_number.ensures.after
     ∙ ap (λ l. l ++ spaced c.args.a) (c.put-2.ensures.after
     ∙ ap (λ l. l ++ c.args.word.now) (c.put.ensures.after
     ∙ ap (λ l. l ++ (40 ∷ [])) c.new-line.ensures)))))

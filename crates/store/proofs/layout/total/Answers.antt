@@ -6,8 +6,8 @@ use Rattle.store.specs.Inner.Leaving.{letters_of}
 use Rattle.store.specs.Leaves.{unused}
 use Rattle.store.proofs.layout.total.Goals as goal
 
-pub overflow-add-letters : goal.overflow-add-letters
-overflow-add-letters c =
+pub overflow_add-letters : goal.overflow_add-letters
+overflow_add-letters c =
     let hs = c.args.headers.now in
     let i = c.loop-header.header-index in
     let small : c.loop-header.letters + (get_or hs i unused).len ≤ 8192 = omega (arith, c.loop-header.invariant, sum_by_more (λ (h : Header). h.len) hs i unused (omega arith), sum_by-take-le (λ (h : Header). h.len) hs (i + 1), c.requires) in

@@ -12,8 +12,8 @@ use Rattle.store.proofs.leaving.compact.Goals as goal
 pub loop-place-init : goal.loop-place-init
 loop-place-init c = moving_none _ _ _ _ _ c.new-stay.ensures
 
-pub overflow-add-from : goal.overflow-add-from
-overflow-add-from c = let small = next_small unused c.loop-place.invariant (omega arith) c.requires.short c.requires.inside c.step-next.ensures c.requires.small in search rules
+pub overflow_add-from : goal.overflow_add-from
+overflow_add-from c = let small = next_small unused c.loop-place.invariant (omega arith) c.requires.short c.requires.inside c.step-next.ensures c.requires.small in search rules
 
 pub loop-place-preserved-then-names : goal.loop-place-preserved-then-names
 loop-place-preserved-then-names c = moving_named unused c.loop-place.invariant (omega arith) c.requires.short c.requires.inside c.step-next.ensures (sym c.if-names.ensures)
@@ -24,11 +24,11 @@ keep-requires c = record {
   inside = run_le unused c.loop-place.invariant (omega arith) c.requires.short c.requires.inside;
 }
 
-pub overflow-add-from-in-loop-place : goal.overflow-add-from-in-loop-place
-overflow-add-from-in-loop-place c = let small = next_small unused c.loop-place.invariant (omega arith) c.requires.short c.requires.inside c.step-next.ensures c.requires.small in search rules
+pub overflow_add-from-in-loop-place : goal.overflow_add-from-in-loop-place
+overflow_add-from-in-loop-place c = let small = next_small unused c.loop-place.invariant (omega arith) c.requires.short c.requires.inside c.step-next.ensures c.requires.small in search rules
 
-pub overflow-add-to : goal.overflow-add-to
-overflow-add-to c = let small = next_small unused c.loop-place.invariant (omega arith) c.requires.short c.requires.inside c.step-next.ensures c.requires.small in search rules
+pub overflow_add-to : goal.overflow_add-to
+overflow_add-to c = let small = next_small unused c.loop-place.invariant (omega arith) c.requires.short c.requires.inside c.step-next.ensures c.requires.small in search rules
 
 pub loop-place-preserved : goal.loop-place-preserved
 loop-place-preserved c =

@@ -11,13 +11,13 @@ loop-place-preserved-then-names c =
     let e = left_more_named c.args.places.now c.args.headers.now c.loop-place.place unused (omega arith) (sym c.if-names.ensures) in
     (c.loop-place.invariant.0 ∙ sym (ap length e), c.loop-place.invariant.1 ∙ sym (ap letters_of e))
 
-pub overflow-add-sessions : goal.overflow-add-sessions
-overflow-add-sessions c =
+pub overflow_add-sessions : goal.overflow_add-sessions
+overflow_add-sessions c =
     let few : c.loop-place.sessions ≤ 64 = omega (arith, length_left_le c.args.places.now 0 (take c.loop-place.place c.args.headers.now), length-take c.loop-place.place c.args.headers.now, c.requires.few) in
     search rules
 
-pub overflow-add-letters : goal.overflow-add-letters
-overflow-add-letters c =
+pub overflow_add-letters : goal.overflow_add-letters
+overflow_add-letters c =
     let hs = c.args.headers.now in
     let i = c.loop-place.place in
     let small : c.loop-place.letters + (get_or hs i unused).len ≤ 8192 = omega (arith, c.loop-place.invariant.1, sum_by_left_le c.args.places.now (λ (h : Header). h.len) 0 (take i hs), sum_by_more (λ (h : Header). h.len) hs i unused (omega arith), sum_by-take-le (λ (h : Header). h.len) hs (i + 1), c.requires.small) in

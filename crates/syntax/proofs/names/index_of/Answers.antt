@@ -8,14 +8,14 @@ use Rattle.syntax.proofs.names.index_of.Goals as goal
 pub loop-i-init : goal.loop-i-init
 loop-i-init c = found_start (map items_of c.args.names.now) c.args.word.now
 
-pub returns-then-same-word : goal.returns-then-same-word
-returns-then-same-word c =
+pub returns-then-same_word : goal.returns-then-same_word
+returns-then-same_word c =
     let ns = c.args.names.now in
     let w = c.args.word.now in
     let i = c.loop-i.i in
-    let here = name_is ns c.as-slice.result.now i c.index-names-i.result c.loop-i-test.true c.index-names-i.is c.as-slice.ensures.value in
+    let here = name_is ns c.as_slice.result.now i c.index-names-i.result c.loop-i-test.true c.index-names-i.is c.as_slice.ensures.value in
     record {
-      value = sym (found_here (map items_of ns) w i (inside ns i c.loop-i-test.true) (ap (λ l. same l w) here ∙ sym c.if-same-word.ensures)) ∙ c.loop-i.invariant;
+      value = sym (found_here (map items_of ns) w i (inside ns i c.loop-i-test.true) (ap (λ l. same l w) here ∙ sym c.if-same_word.ensures)) ∙ c.loop-i.invariant;
       bound = omega arith;
     }
 
@@ -24,8 +24,8 @@ loop-i-preserved c =
     let ns = c.args.names.now in
     let w = c.args.word.now in
     let i = c.loop-i.i in
-    let here = name_is ns c.as-slice.result.now i c.index-names-i.result c.loop-i-test.true c.index-names-i.is c.as-slice.ensures.value in
-    sym (found_later (map items_of ns) w i (inside ns i c.loop-i-test.true) (ap (λ l. same l w) here ∙ sym c.if-same-word.ensures)) ∙ c.loop-i.invariant
+    let here = name_is ns c.as_slice.result.now i c.index-names-i.result c.loop-i-test.true c.index-names-i.is c.as_slice.ensures.value in
+    sym (found_later (map items_of ns) w i (inside ns i c.loop-i-test.true) (ap (λ l. same l w) here ∙ sym c.if-same_word.ensures)) ∙ c.loop-i.invariant
 
 pub returns : goal.returns
 returns c = record {

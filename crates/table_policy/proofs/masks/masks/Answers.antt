@@ -7,6 +7,6 @@ loop-index-preserved c =
     let ns = c.args.nodes.now in
     let l = c.loop-index in
     let h = c.loop-index.invariant in (
-      masks_more true ns l.index 4 l.upright l.inverted _ c.requires c.loop-index-test.true h.0.0 h.0.1 h.1.1 c.node-mask-up.ensures,
-      masks_more false ns l.index 4 l.inverted l.upright _ c.requires c.loop-index-test.true h.1.0 h.1.1 h.0.1 c.node-mask-down.ensures,
+      masks_more true ns l.index 4 l.upright l.inverted _ c.requires c.loop-index-test.true h.0.0 h.0.1 h.1.1 c.node_mask-up.ensures,
+      masks_more false ns l.index 4 l.inverted l.upright _ c.requires c.loop-index-test.true h.1.0 h.1.1 h.0.1 c.node_mask-down.ensures,
     )

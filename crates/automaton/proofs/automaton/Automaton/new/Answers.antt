@@ -9,32 +9,32 @@ use Rattle.automaton.specs.Ranges.{range_decides, range_fits, fits_range}
 use Rattle.automaton.specs.Running.{breaks_by_failing, one_run}
 use Rattle.automaton.proofs.automaton.Automaton.new.Goals as goal
 
-pub returns-then-not-in-range : goal.returns-then-not-in-range
-returns-then-not-in-range c =
-    λ fits. not_from_Decides c.in-range.result c.in-range.ensures c.if-not-in-range.true (fits_range c.args.places c.args.states c.args.good c.args.edges.now fits)
+pub returns-then-not-in_range : goal.returns-then-not-in_range
+returns-then-not-in_range c =
+    λ fits. not_from_Decides c.in_range.result c.in_range.ensures c.if-not-in_range.true (fits_range c.args.places c.args.states c.args.good c.args.edges.now fits)
 
 pub invariant_of-result : goal.invariant_of-result
 invariant_of-result c =
     let k = c.args.places in
     let es = c.args.edges.now in
-    let range = c.in-range.ensures.0 c.if-not-in-range.false in
+    let range = c.in_range.ensures.0 c.if-not-in_range.false in
     let held = filled (items_of c.new-rows.result) es 64 c.new-rows.ensures range.5 c.extend.ensures.taken c.extend.ensures.after in (
       subst (λ (l : List Edge). automaton_test k c.args.states c.args.good l ≡ true) (sym held) ((range_decides k c.args.states c.args.good es).1 range),
-      (subst (λ (l : List Edge). c.signals-of-signals.result ≡ union k l) (sym held) c.signals-of-signals.ensures, tt),
+      (subst (λ (l : List Edge). c.signals_of-signals.result ≡ union k l) (sym held) c.signals_of-signals.ensures, tt),
     )
 
 pub returns : goal.returns
 returns c =
     let k = c.args.places in
     let es = c.args.edges.now in
-    let range = c.in-range.ensures.0 c.if-not-in-range.false in
+    let range = c.in_range.ensures.0 c.if-not-in_range.false in
     let held = filled (items_of c.new-rows.result) es 64 c.new-rows.ensures range.5 c.extend.ensures.taken c.extend.ensures.after in
     record {
       fits = range_fits k c.args.states c.args.good es range;
       states_kept = refl;
       good_kept = refl;
       edges_kept = held;
-      exact = kept_judges k es (items_of c.extend.new.self) c.args.good c.signals-of-signals.result held c.signals-of-signals.ensures;
+      exact = kept_judges k es (items_of c.extend.new.self) c.args.good c.signals_of-signals.result held c.signals_of-signals.ensures;
       failing = breaks_by_failing k es c.args.good;
       one_run = λ xs m qs rs. one_run k es xs m qs rs;
       joined_only = joined_only k (items_of c.extend.new.self) c.args.good;

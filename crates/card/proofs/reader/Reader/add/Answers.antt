@@ -12,8 +12,8 @@ all c =
     c.extend.ensures.after
     ∙ ap (λ b. cond b (items_of c.args.self.now.draft.nodes ++ c.args.nodes.now) (items_of c.args.self.now.draft.nodes)) c.if-not-extend.false
 
-pub overflow-sub-result : goal.overflow-sub-result
-overflow-sub-result c = omega (arith, ap length (all c), length-append (items_of c.args.self.now.draft.nodes) c.args.nodes.now)
+pub overflow_sub-result : goal.overflow_sub-result
+overflow_sub-result c = omega (arith, ap length (all c), length-append (items_of c.args.self.now.draft.nodes) c.args.nodes.now)
 
 pub returns : goal.returns
 returns c = λ ds vs room.

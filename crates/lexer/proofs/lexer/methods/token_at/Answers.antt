@@ -11,9 +11,9 @@ returns-then-place-card c = record {
   part = tt;
 }
 
-pub returns-then-end-place-gt-MOST-LETTERS : goal.returns-then-end-place-gt-MOST-LETTERS
-returns-then-end-place-gt-MOST-LETTERS c = record {
-  reads = long_word c.args.card.now c.args.at c.run-end-end.result c.if-place-card.false c.run-end-end.ensures.value c.in-Letter.ensures c.if-end-place-gt-MOST-LETTERS.true;
+pub returns-then-end-place-gt-MOST_LETTERS : goal.returns-then-end-place-gt-MOST_LETTERS
+returns-then-end-place-gt-MOST_LETTERS c = record {
+  reads = long_word c.args.card.now c.args.at c.run_end-end.result c.if-place-card.false c.run_end-end.ensures.value c.in-Letter.ensures c.if-end-place-gt-MOST_LETTERS.true;
   ends = tt;
   part = tt;
 }
@@ -39,14 +39,14 @@ returns-in-LineEnd c = record {
   part = tt;
 }
 
-pub returns-else-end-place-gt-MOST-LETTERS : goal.returns-else-end-place-gt-MOST-LETTERS
-returns-else-end-place-gt-MOST-LETTERS c =
+pub returns-else-end-place-gt-MOST_LETTERS : goal.returns-else-end-place-gt-MOST_LETTERS
+returns-else-end-place-gt-MOST_LETTERS c =
     let some = one_more c.args.card.now c.args.at Letter c.if-place-card.false c.in-Letter.ensures refl in
     let bs = drop c.args.at.place c.args.card.now in
-    let n = c.run-end-end.result - c.args.at.place in
+    let n = c.run_end-end.result - c.args.at.place in
     let long : length (take n bs) ≡ n = length-take-le n bs (omega (arith, length-drop c.args.at.place c.args.card.now)) in
     record {
-      reads = short_word c.args.card.now c.args.at c.run-end-end.result c.if-place-card.false c.run-end-end.ensures.value c.in-Letter.ensures c.if-end-place-gt-MOST-LETTERS.false;
+      reads = short_word c.args.card.now c.args.at c.run_end-end.result c.if-place-card.false c.run_end-end.ensures.value c.in-Letter.ensures c.if-end-place-gt-MOST_LETTERS.false;
       ends = record { falls = omega arith; within = omega arith; lined = omega arith };
       part = record { memory = search rules; bytes = ap (λ n. take n bs) (sym long); some = omega arith; short = omega arith; inside = omega arith };
     }
@@ -55,14 +55,14 @@ pub returns-in-Some : goal.returns-in-Some
 returns-in-Some c =
     let some = one_more c.args.card.now c.args.at Digit c.if-place-card.false c.in-Digit.ensures refl in
     record {
-      reads = a_number c.args.card.now c.args.at c.run-end-end-in-Digit.result c.if-place-card.false c.run-end-end-in-Digit.ensures.value c.in-Some.n c.in-Digit.ensures c.in-Some.ensures;
+      reads = a_number c.args.card.now c.args.at c.run_end-end-in-Digit.result c.if-place-card.false c.run_end-end-in-Digit.ensures.value c.in-Some.n c.in-Digit.ensures c.in-Some.ensures;
       ends = record { falls = omega arith; within = omega arith; lined = omega arith };
       part = tt;
     }
 
 pub returns-in-None : goal.returns-in-None
 returns-in-None c = record {
-  reads = no_number c.args.card.now c.args.at c.run-end-end-in-Digit.result c.if-place-card.false c.run-end-end-in-Digit.ensures.value c.in-Digit.ensures c.in-None.ensures;
+  reads = no_number c.args.card.now c.args.at c.run_end-end-in-Digit.result c.if-place-card.false c.run_end-end-in-Digit.ensures.value c.in-Digit.ensures c.in-None.ensures;
   ends = tt;
   part = tt;
 }
@@ -70,8 +70,8 @@ returns-in-None c = record {
 pub returns-in-Space : goal.returns-in-Space
 returns-in-Space c = record {
   reads = elim c.in-Space.is [
-    | inl e ↦ absurd (c.requires.dark c.if-place-card.false (sym c.kind-of.ensures ∙ e))
-    | inr e ↦ at_kind c.args.card.now c.args.at Other c.if-place-card.false (sym e ∙ c.kind-of.ensures)
+    | inl e ↦ absurd (c.requires.dark c.if-place-card.false (sym c.kind_of.ensures ∙ e))
+    | inr e ↦ at_kind c.args.card.now c.args.at Other c.if-place-card.false (sym e ∙ c.kind_of.ensures)
   ];
   ends = tt;
   part = tt;

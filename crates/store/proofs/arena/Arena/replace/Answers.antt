@@ -16,19 +16,19 @@ pub compact-end-requires : goal.compact-end-requires
 compact-end-requires c =
     let a = c.args.self.now in
     let h = held_facts c.args.layout a c.requires.held in
-    let room = ap (room_of c.args.layout) c.as-slice.ensures.value in
+    let room = ap (room_of c.args.layout) c.as_slice.ensures.value in
     record {
-      few = c.as-slice.ensures.bound;
+      few = c.as_slice.ensures.bound;
       small = omega (arith, room, h.full, h.most);
-      inside = omega (arith, room, h.full, h.lent, c.as-mut-slice.ensures.len);
-      short = rw c.as-slice.ensures.value h.short;
+      inside = omega (arith, room, h.full, h.lent, c.as_mut_slice.ensures.len);
+      short = rw c.as_slice.ensures.value h.short;
     }
 
 pub append-requires : goal.append-requires
 append-requires c =
     let h = held_facts c.args.layout c.args.self.now c.requires.held in
-    let left : items_of c.compact-end.result.0 ≡ headers_left c.args.self.now c.args.places.now = c.compact-end.ensures.headers ∙ ap (left_from 0 c.args.places.now) c.as-slice.ensures.value in
-    omega (arith, c.compact-end.ensures.end, ap (room_of c.args.layout) left, c.requires.inside, h.lent, c.as-mut-slice-2.ensures.len)
+    let left : items_of c.compact-end.result.0 ≡ headers_left c.args.self.now c.args.places.now = c.compact-end.ensures.headers ∙ ap (left_from 0 c.args.places.now) c.as_slice.ensures.value in
+    omega (arith, c.compact-end.ensures.end, ap (room_of c.args.layout) left, c.requires.inside, h.lent, c.as_mut_slice-2.ensures.len)
 
 pub returns : goal.returns
 returns c =
@@ -41,26 +41,26 @@ returns c =
     let stay = items_of c.compact-end.result.0 in
     let end = c.compact-end.result.1 in
     let m₁ = c.compact-end.new.memory in
-    let m₂ = c.as-mut-slice-2.result.now in
+    let m₂ = c.as_mut_slice-2.result.now in
     let m₃ = c.append.new.memory in
     let new : Header = record { number = c.args.number; len = length s } in
-    let same : m₂ ≡ m₁ = c.as-mut-slice-2.ensures.value ∙ refilled_items a.memory m₁ (omega (arith, c.compact-end.auto.memory, c.as-mut-slice.ensures.len)) in
-    let left : stay ≡ headers_left a ps = e.headers ∙ ap (left_from 0 ps) c.as-slice.ensures.value in
+    let same : m₂ ≡ m₁ = c.as_mut_slice-2.ensures.value ∙ refilled_items a.memory m₁ (omega (arith, c.compact-end.auto.memory, c.as_mut_slice.ensures.len)) in
+    let left : stay ≡ headers_left a ps = e.headers ∙ ap (left_from 0 ps) c.as_slice.ensures.value in
     let inside : end + length s ≤ a.room = omega (arith, e.end, ap (room_of layout) left, c.requires.inside) in
-    let long : length m₂ ≡ vec_len a.memory = c.as-mut-slice-2.ensures.len in
+    let long : length m₂ ≡ vec_len a.memory = c.as_mut_slice-2.ensures.len in
     let headers : items_of c.append.new.stay ≡ stay ++ new ∷ [] = pushed stay new 64 (omega (arith, ap length left, c.requires.few)) refl c.append.ensures.header in
     let short : All (λ x. x.len ≤ 128) stay = rw left (all_left ps (λ x. x.len ≤ 128) 0 (headers_in a) h.short) in
     let spread_left : spread (pitch layout) stay m₂ ≡ left_from 0 ps (entries_in layout a) =
     ap (spread (pitch layout) stay) same ∙ e.entries
-    ∙ ap (λ m. left_from 0 ps (spread (pitch layout) c.as-slice.result.now m)) c.as-mut-slice.ensures.value
-    ∙ ap (λ hs. left_from 0 ps (spread (pitch layout) hs (vec_items a.memory))) c.as-slice.ensures.value in
+    ∙ ap (λ m. left_from 0 ps (spread (pitch layout) c.as_slice.result.now m)) c.as_mut_slice.ensures.value
+    ∙ ap (λ hs. left_from 0 ps (spread (pitch layout) hs (vec_items a.memory))) c.as_slice.ensures.value in
     let final : vec_items (with_items (with_items a.memory m₁) m₃) ≡ m₃ = refilled_items (with_items a.memory m₁) m₃ (omega (arith, c.append.auto.memory, long)) in
     let past =
     ap (drop a.room) (final ∙ c.append.ensures.letters)
     ∙ drop_past m₂ end s (length s) a.room (omega (arith, h.lent, long)) (omega arith) inside
     ∙ ap (drop a.room) same
-    ∙ drop_later m₁ c.as-mut-slice.result.now (room_of layout c.as-slice.result.now) a.room (omega (arith, ap (room_of layout) c.as-slice.ensures.value, h.full)) e.rest
-    ∙ ap (drop a.room) c.as-mut-slice.ensures.value in
+    ∙ drop_later m₁ c.as_mut_slice.result.now (room_of layout c.as_slice.result.now) a.room (omega (arith, ap (room_of layout) c.as_slice.ensures.value, h.full)) e.rest
+    ∙ ap (drop a.room) c.as_mut_slice.ensures.value in
     record {
       after =
           ap (spread (pitch layout) (items_of c.append.new.stay)) final

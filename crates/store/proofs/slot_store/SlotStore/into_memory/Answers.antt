@@ -6,5 +6,5 @@ use Rattle.store.proofs.slot_store.SlotStore.into_memory.Goals as goal
 
 pub returns : goal.returns
 returns c =
-    let e = c.into-memory.ensures in
+    let e = c.into_memory.ensures in
     record { same = e; lie = subst (λ (m : Memory). LieInSlots (slot_entries c.args.self) m) (sym e) (lie_in_slots c.args.self.arena c.args.self.lawful) }

@@ -5,4 +5,4 @@ use Rattle.table_policy.proofs.policy.methods.TablePolicyPolicy.stands_for.Goals
 pub returns : goal.returns
 returns c =
     let self = c.args.self.now in
-    told_standing (rule_of self.table) self.upright self.inverted c.args.s.now c.args.t.now c.stands-by.result self.up self.down c.stands-by.ensures
+    told_standing (rule_of self.table) self.upright self.inverted c.args.s.now c.args.t.now c.stands_by.result self.up self.down c.stands_by.ensures

@@ -5,13 +5,13 @@ use Rattle.automaton.proofs.run.next_state.Goals as goal
 
 pub returns-then-fits : goal.returns-then-fits
 returns-then-fits c =
-    sym (next_here c.args.places (shown c.args.letters.now) c.args.edges.now c.args.state c.loop-edge.edge_index c.loop-edge-test.true c.if-fits.ensures)
+    sym (next_here c.args.places (shown c.args.letters.now) c.args.edges.now c.args.state c.loop-edge.edge-index c.loop-edge-test.true c.if-fits.ensures)
     ∙ c.loop-edge.invariant
 
 pub loop-edge-preserved : goal.loop-edge-preserved
 loop-edge-preserved c =
-    sym (next_later c.args.places (shown c.args.letters.now) c.args.edges.now c.args.state c.loop-edge.edge_index c.loop-edge-test.true c.if-fits.ensures)
+    sym (next_later c.args.places (shown c.args.letters.now) c.args.edges.now c.args.state c.loop-edge.edge-index c.loop-edge-test.true c.if-fits.ensures)
     ∙ c.loop-edge.invariant
 
 pub returns : goal.returns
-returns c = sym (next_end c.args.places (shown c.args.letters.now) c.args.edges.now c.args.state c.loop-edge.edge_index c.loop-edge-test.false) ∙ c.loop-edge.invariant
+returns c = sym (next_end c.args.places (shown c.args.letters.now) c.args.edges.now c.args.state c.loop-edge.edge-index c.loop-edge-test.false) ∙ c.loop-edge.invariant

@@ -5,4 +5,4 @@ use Rattle.syntax.specs.Words.{same}
 use Rattle.syntax.proofs.head.same_word.Goals as goal
 
 pub returns : goal.returns
-returns c = same_from_decides _ _ (slice_eq-Decides Decides-eqb _ _ _ c.eq.ensures) (compares_Decides same (search rules) _ _)
+returns c = same_from_decides _ _ (slice_eq-Decides Decides-eqb c.args.a.now c.args.b.now _ c.eq.ensures) (compares_Decides same (search rules) c.args.a.now c.args.b.now)

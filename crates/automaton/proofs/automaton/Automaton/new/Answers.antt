@@ -18,10 +18,11 @@ invariant_of-result c =
     let k = c.args.places in
     let es = c.args.edges.now in
     let range = c.in_range.ensures.0 c.if-not-in_range.false in
-    let held = filled (items_of c.new-rows.result) es 64 c.new-rows.ensures range.5 c.extend.ensures.taken c.extend.ensures.after in (
-      subst (λ (l : List Edge). automaton_test k c.args.states c.args.good l ≡ true) (sym held) ((range_decides k c.args.states c.args.good es).1 range),
-      (subst (λ (l : List Edge). c.signals_of-signals.result ≡ union k l) (sym held) c.signals_of-signals.ensures, tt),
-    )
+    let held = filled (items_of c.new-rows.result) es 64 c.new-rows.ensures range.5 c.extend.ensures.taken c.extend.ensures.after in
+    record {
+      sound = subst (λ (l : List Edge). automaton_test k c.args.states c.args.good l ≡ true) (sym held) ((range_decides k c.args.states c.args.good es).1 range);
+      seen = subst (λ (l : List Edge). c.signals_of-signals.result ≡ union k l) (sym held) c.signals_of-signals.ensures;
+    }
 
 pub returns : goal.returns
 returns c =

@@ -12,4 +12,4 @@ invariant_of-result c =
     let ns = c.args.nodes.now in
     let fits = c.table_fits.ensures.0 c.if-not-table_fits.false in
     let held = filled (items_of c.new-kept.result) ns 64 c.new-kept.ensures fits.few c.extend.ensures.taken c.extend.ensures.after in
-    (subst (λ (l : List Node). table_test k l ≡ true) (sym held) ((table_decides k ns).1 fits), tt)
+    record { sound = subst (λ (l : List Node). table_test k l ≡ true) (sym held) ((table_decides k ns).1 fits) }

@@ -12,9 +12,9 @@ returns-then-extend c =
     let held = items_of c.args.self.now.names in
     let ns = names_of c.args.self.now in
     let w = c.args.word.now in
-    let none = ap length c.new_name.ensures in
+    let none = ap length c.new-name.ensures in
     let short = leb-true _ _ (sym c.extend.ensures.taken ∙ c.if-extend.true) in
-    let name = extended (items_of c.new_name.result) w 16 short c.extend.ensures.taken c.extend.ensures.after ∙ ap (λ l. l ++ w) c.new_name.ensures in
+    let name = extended (items_of c.new-name.result) w 16 short c.extend.ensures.taken c.extend.ensures.after ∙ ap (λ l. l ++ w) c.new-name.ensures in
     let fresh = sym c.if-is_some.false ∙ c.is_some.ensures ∙ ap is_some c.find.ensures.value in
     record {
       taken = λ _. c.push.ensures.taken ∙ ap (λ n. ltb n 32) (sym (length-map held items_of)) ∙ ap (λ b. not b && ltb (length ns) 32) fresh;

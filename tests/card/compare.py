@@ -5,7 +5,7 @@ import struct
 import subprocess
 import sys
 
-from card_reference import card_line
+from reference import card_line
 
 WORDS = ["true", "at", "near", "not", "and", "or", "next", "until", "iff", "always", "weak",
          "sessions", "signal", "rule"]

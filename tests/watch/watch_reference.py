@@ -10,7 +10,7 @@ import re
 import sys
 
 sys.path.insert(0, os.path.join(os.path.dirname(os.path.abspath(__file__)), "..", "card"))
-from card_reference import card_line  # noqa: E402
+from reference import card_line  # noqa: E402
 
 MOST_LETTERS = 128
 MOST_ACCEPTED = 1_000_000

@@ -1,7 +1,7 @@
 -- An automaton as a policy.
 use Rattle.std.specs.Prelude.{◌≡◌, ℕ, ◌↔◌, List}
 use Rattle.fixed_vec.specs.Items.{items_of}
-use Rattle.policy.specs.Policy.{Meaning, Judges, JoinedOnly}
+use Rattle.policy.specs.Policy.{Meaning, Judges}
 use Rattle.policy.specs.Sessions.{Tuple, IsTuple}
 use Rattle.policy.specs.Testing.{stands_test}
 use Rattle.automaton.specs.declared.automaton.Automaton.{Automaton}
@@ -27,5 +27,3 @@ pub record IsAutomaton (k n good : ℕ) (es : List Edge) (a : Automaton) : Type 
   pub failing : (xs : Tuple) → Breaks k es good xs ↔ (IsTuple k xs × Failed k es good xs)
   -- and there is at most one run over so many steps
   pub one_run : (xs : Tuple) (m : ℕ) (qs rs : List ℕ) → Run k es xs m qs → Run k es xs m rs → qs ≡ rs
-  -- tuples with the same joined word are judged alike, whatever follows it
-  pub joined_only : JoinedOnly (automaton_means a)

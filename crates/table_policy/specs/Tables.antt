@@ -1,7 +1,7 @@
 -- A table as a policy.
-use Rattle.std.specs.Prelude.{◌≡◌, ℕ, true, false, ◌↔◌}
-use Rattle.policy.specs.Policy.{Meaning, Judges, JoinedOnly}
-use Rattle.policy.specs.Sessions.{On}
+use Rattle.std.specs.Prelude.{◌≡◌, ℕ, ◌<◌, true, false, ◌↔◌}
+use Rattle.policy.specs.Policy.{Meaning, Judges}
+use Rattle.policy.specs.Sessions.{On, Tuple, IsTuple, letter, shortest}
 use Rattle.policy.specs.Testing.{stands_test}
 use Rattle.rule.specs.declared.table.Table.{Table}
 use Rattle.rule.specs.Meaning.{Breaks}
@@ -28,4 +28,4 @@ pub record IsPolicyOf (t : Table) (p : TablePolicy) : Type 0 where
   pub upright_reached : (s : ℕ) → On p.upright s ↔ Reached true (nodes_of t) s
   pub inverted_reached : (s : ℕ) → On p.inverted s ↔ Reached false (nodes_of t) s
   -- tuples with the same joined word are judged alike, whatever follows it
-  pub joined_only : JoinedOnly (table_means p)
+  pub joined_only : (xs ys : Tuple) → IsTuple t.places xs → IsTuple t.places ys → shortest xs ≡ shortest ys → ((v i : ℕ) → i < shortest xs → letter xs v i ≡ letter ys v i) → (table_means p).breaks xs ≡ (table_means p).breaks ys

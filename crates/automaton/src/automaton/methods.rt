@@ -1,4 +1,5 @@
-ghost use Rattle.std.specs.Prelude.{◌≡◌, Decides, MatchResult};
+ghost use Rattle.std.specs.Prelude.{◌≡◌, Decides, IfOk, MatchResult};
+ghost use Rattle.policy.specs.Policy.{JoinedOnly};
 ghost use Rattle.policy.specs.Sessions.{sessions};
 ghost use Rattle.automaton.specs.Automata.{automaton_means, edges_of, IsAutomaton};
 ghost use Rattle.automaton.specs.Runs.{AutomatonFits, Breaks, StandsFor};
@@ -30,7 +31,9 @@ impl Automaton {
         good: u16,
         edges: &[Edge],
     ) -> Result<Automaton, OutOfRange>
-        ensures { MatchResult result (λ a. IsAutomaton places states good edges.now a) (λ _. (AutomatonFits places states good edges.now → ⊥)) }
+        ensures made { MatchResult result (λ a. IsAutomaton places states good edges.now a) (λ _. (AutomatonFits places states good edges.now → ⊥)) }
+        // tuples with the same joined word are judged alike, whatever follows it
+        ensures joined { IfOk result (λ a. JoinedOnly (automaton_means a)) }
     {
         if !in_range(places, states, good, edges) {
             return Err(OutOfRange);

@@ -9,8 +9,8 @@ use Rattle.automaton.specs.Ranges.{range_decides, range_fits, fits_range}
 use Rattle.automaton.specs.Running.{breaks_by_failing, one_run}
 use Rattle.automaton.proofs.automaton.Automaton.new.Goals as goal
 
-pub returns-then-not-in_range : goal.returns-then-not-in_range
-returns-then-not-in_range c =
+pub returns-then-not-in_range-clause-made : goal.returns-then-not-in_range-clause-made
+returns-then-not-in_range-clause-made c =
     λ fits. not_from_Decides c.in_range.result c.in_range.ensures c.if-not-in_range.true (fits_range c.args.places c.args.states c.args.good c.args.edges.now fits)
 
 pub invariant_of-result : goal.invariant_of-result
@@ -24,8 +24,8 @@ invariant_of-result c =
       seen = subst (λ (l : List Edge). c.signals_of-signals.result ≡ union k l) (sym held) c.signals_of-signals.ensures;
     }
 
-pub returns : goal.returns
-returns c =
+pub returns-clause-made : goal.returns-clause-made
+returns-clause-made c =
     let k = c.args.places in
     let es = c.args.edges.now in
     let range = c.in_range.ensures.0 c.if-not-in_range.false in
@@ -38,5 +38,7 @@ returns c =
       exact = kept_judges k es (items_of c.extend.new.self) c.args.good c.signals_of-signals.result held c.signals_of-signals.ensures;
       failing = breaks_by_failing k es c.args.good;
       one_run = λ xs m qs rs. one_run k es xs m qs rs;
-      joined_only = joined_only k (items_of c.extend.new.self) c.args.good;
     }
+
+pub returns-clause-joined : goal.returns-clause-joined
+returns-clause-joined c = joined_only c.args.places (items_of c.extend.new.self) c.args.good

@@ -1,4 +1,4 @@
-//! The card line for C.
+//! The card line.
 ghost use Rattle.std.specs.Prelude.{◌≡◌, length, pos, ◌≤ℤ◌};
 ghost use Rattle.portbook.specs.Line.{answer, written};
 
@@ -12,8 +12,7 @@ const NO_ROOM: i32 = -13;
 
 /// Writes the line of a card to the front of `out` and answers its length. The rest of `out` stays
 /// as it is. Where `out` has under 64 bytes the answer is -13, and nothing is written.
-#[unsafe(no_mangle)]
-pub extern "C" fn portbook_card_line(card: &[u8], out: &mut [u8]) -> i32
+pub fn portbook_card_line(card: &[u8], out: &mut [u8]) -> i32
     ensures answer { result ≡ answer card.now out.old }
     ensures bound { result ≤ℤ pos 64 }
     ensures written { out.new ≡ written card.now out.old }

@@ -1,4 +1,4 @@
-//! The entries that C calls.
+//! The entries of the library.
 #![tactic(auto)]
 
 mod decimal;

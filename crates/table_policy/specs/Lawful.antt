@@ -3,7 +3,7 @@ use Rattle.policy.specs.Policy.{Lawful}
 use Rattle.rule.proofs.Tested.{table_decides}
 use Rattle.rule.specs.Nodes.{TableFits}
 use Rattle.rule.specs.Tables.{nodes_of, rule_of}
-use Rattle.table_policy.specs.declared.policy.TablePolicy.{TablePolicy}
+use Rattle.table_policy.specs.declared.table_policy.TablePolicy.{TablePolicy}
 use Rattle.table_policy.specs.Tables.{table_means}
 use Rattle.table_policy.specs.Judged.{rule_lawful}
 

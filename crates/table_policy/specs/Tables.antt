@@ -9,7 +9,7 @@ use Rattle.rule.specs.Rule.{Rule}
 use Rattle.rule.specs.Standing.{StandsFor}
 use Rattle.rule.specs.Tables.{nodes_of, rule_of}
 use Rattle.rule.specs.Ways.{Reached}
-use Rattle.table_policy.specs.declared.policy.TablePolicy.{TablePolicy}
+use Rattle.table_policy.specs.declared.table_policy.TablePolicy.{TablePolicy}
 use Rattle.table_policy.specs.Evaluating.{breaks_test}
 use Rattle.table_policy.specs.Masks.{mask}
 

@@ -3,8 +3,8 @@
 
 mod engine;
 mod masks;
-mod policy;
 mod samples;
+mod table_policy;
 
-pub use policy::TablePolicy;
 pub use samples::sample_holds;
+pub use table_policy::TablePolicy;

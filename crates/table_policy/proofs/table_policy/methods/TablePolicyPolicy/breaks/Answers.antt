@@ -8,7 +8,7 @@ use Rattle.rule.specs.Nodes.{TableFits, root}
 use Rattle.rule.specs.Tables.{nodes_of, rule_of}
 use Rattle.table_policy.specs.Evaluating.{eval}
 use Rattle.table_policy.specs.Judged.{told, no_tuple, by_word}
-use Rattle.table_policy.proofs.policy.methods.TablePolicyPolicy.breaks.Goals as goal
+use Rattle.table_policy.proofs.table_policy.methods.TablePolicyPolicy.breaks.Goals as goal
 
 pub returns-then-not-is_tuple : goal.returns-then-not-is_tuple
 returns-then-not-is_tuple c =

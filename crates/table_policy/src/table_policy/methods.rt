@@ -8,7 +8,7 @@ ghost use Rattle.table_policy.specs.Lawful.{table_lawful};
 
 use crate::engine::first_value;
 use crate::masks::masks;
-use crate::policy::TablePolicy;
+use crate::table_policy::TablePolicy;
 use policy::{Policy, is_tuple, joined, stands_by, steps};
 use rule::Table;
 

@@ -1,6 +1,6 @@
 use Rattle.rule.specs.Tables.{rule_of}
 use Rattle.table_policy.specs.Judged.{told_standing}
-use Rattle.table_policy.proofs.policy.methods.TablePolicyPolicy.stands_for.Goals as goal
+use Rattle.table_policy.proofs.table_policy.methods.TablePolicyPolicy.stands_for.Goals as goal
 
 pub returns : goal.returns
 returns c =

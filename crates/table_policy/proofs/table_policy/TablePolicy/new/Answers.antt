@@ -8,7 +8,7 @@ use Rattle.rule.specs.Ways.{Reached}
 use Rattle.table_policy.specs.Masks.{mask}
 use Rattle.table_policy.specs.Judged.{rule_judges, joined_only}
 use Rattle.table_policy.proofs.Reached.{sets_reached}
-use Rattle.table_policy.proofs.policy.TablePolicy.new.Goals as goal
+use Rattle.table_policy.proofs.table_policy.TablePolicy.new.Goals as goal
 
 pub masks-upright-requires : goal.masks-upright-requires
 masks-upright-requires c =

@@ -1,5 +1,5 @@
 -- An automaton as a policy: its answers are the meaning of its runs, and keep the laws.
-use Rattle.std.specs.Prelude.{◌≡◌, ℕ, zero, suc, ◌+◌, ◌<◌, ◌≤◌, Bool, true, false, not, ◌&&◌, ◌↔◌, List, [], length, get_or, Some, None, Decides, Option, bit_and, slice_index, slice_index_or, slice_set, refl}
+use Rattle.std.specs.Prelude.{◌≡◌, ℕ, zero, suc, ◌+◌, ◌<◌, ◌≤◌, Bool, false, not, ◌&&◌, ◌↔◌, List, [], length, get_or, Some, None, Decides, Option, bit_and, slice_index, slice_index_or, slice_set, refl}
 use Rattle.std.proofs.Math.Logic.{⊎_elim}
 use Rattle.std.proofs.Math.Path.{sym, subst}
 use Rattle.std.proofs.Common.{ap, ap₂, ◌∙◌, arith}
@@ -10,11 +10,11 @@ use Rattle.policy.proofs.Judged.{lawful_by}
 use Rattle.policy.proofs.Tested.{tuple_decides, stands_decides}
 use Rattle.policy.proofs.Tuples.{at_each, shortest_set, tuple_set}
 use Rattle.policy.specs.Policy.{Judges, Lawful}
-use Rattle.policy.specs.Sessions.{On, Session, IsSession, Tuple, IsTuple, letter, shortest}
+use Rattle.policy.specs.Sessions.{On, Session, Tuple, IsTuple, letter, shortest}
 use Rattle.policy.specs.Standing.{StandsBy}
-use Rattle.policy.specs.Testing.{tuple_test, stands_test}
+use Rattle.policy.specs.Testing.{stands_test}
 use Rattle.automaton.specs.declared.edge.Edge.{Edge}
-use Rattle.automaton.specs.Runs.{none, nothing, column, Accepted, Breaks, Looks, StandsFor}
+use Rattle.automaton.specs.Runs.{none, nothing, column, Breaks, Looks, StandsFor}
 use Rattle.automaton.specs.Testing.{next_state, go_on, accepts, breaks_test, union}
 use Rattle.automaton.specs.Running.{accepted_decides}
 use Rattle.automaton.specs.Stepping.{next_same}

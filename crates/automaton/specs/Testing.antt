@@ -1,5 +1,5 @@
 -- Runs by tests, which the meaning of an automaton is made of. `IsAutomaton` says what they tell.
-use Rattle.std.specs.Prelude.{◌≡◌, ℕ, zero, suc, ◌+◌, ◌^◌, ◌<◌, ◌≤◌, Bool, true, false, cond, not, ◌&&◌, List, [], ◌∷◌, length, Some, None, Option, ◌==◌, bit_and, bit_or, nat_eq, nat_le, nat_lt, slice_index, slice_index_or}
+use Rattle.std.specs.Prelude.{ℕ, zero, suc, ◌+◌, ◌^◌, ◌<◌, ◌≤◌, Bool, false, cond, not, ◌&&◌, List, [], ◌∷◌, length, Some, None, Option, ◌==◌, bit_and, bit_or, nat_eq, nat_le, nat_lt, slice_index, slice_index_or}
 use Rattle.policy.specs.Sessions.{Letter, Tuple, on, shortest}
 use Rattle.policy.specs.Testing.{all_below, tuple_test}
 use Rattle.automaton.specs.declared.edge.Edge.{Edge}

@@ -1,5 +1,5 @@
 -- The nodes of a form that find room.
-use Rattle.std.proofs.Common.{◌≡◌, ℕ, ◌+◌, ◌-◌, Bool, true, cond, leb, List, ◌∷◌, ◌++◌, length, sym, ap, ◌∙◌}
+use Rattle.std.proofs.Common.{◌≡◌, ℕ, ◌+◌, ◌-◌, true, cond, leb, List, ◌∷◌, ◌++◌, length, sym, ap, ◌∙◌}
 use Rattle.std.proofs.lemmas.List.{length-append}
 use Rattle.lexer.specs.declared.fault.Layer.TheVariants.{Form}
 use Rattle.lexer.specs.declared.fault.Position.{Position}

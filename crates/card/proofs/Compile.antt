@@ -12,7 +12,7 @@ use Rattle.syntax.specs.declared.head.Binary.{Binary}
 use Rattle.syntax.specs.declared.head.Binary.TheVariants.{And, Or, Until, Iff, Weak}
 use Rattle.syntax.specs.declared.head.Unary.{Unary}
 use Rattle.syntax.specs.declared.head.Unary.TheVariants.{Not, Next, Always}
-use Rattle.card.specs.Grammar.{Formula, truth, at, near, one, two, unary_size, binary_size, size, signal, signals, unary_rule, binary_rule, meaning, Declared, Fits}
+use Rattle.card.specs.Grammar.{Formula, truth, at, near, one, two, unary_size, binary_size, size, signal, signals, unary_rule, binary_rule, meaning, Fits}
 use Rattle.card.specs.Layout.{one_nodes, two_nodes}
 use Rattle.card.proofs.Naming.{signal_below}
 

@@ -1,5 +1,5 @@
 -- A card within the limits is accepted, and what is known of it then.
-use Rattle.std.proofs.Common.{◌≡◌, ℕ, suc, ◌+◌, ◌-◌, ◌^◌, ◌<◌, ◌≤◌, max, Bool, true, false, cond, not, ◌&&◌, eqb, ltb, leb, List, [], ◌∷◌, ◌++◌, length, drop, is_some, Some, None, codes, Option, sym, refl, ap, ◌∙◌, subst, ap₂, append_assoc, append-nil, arith, length-append}
+use Rattle.std.proofs.Common.{◌≡◌, ℕ, ◌+◌, ◌-◌, ◌^◌, ◌<◌, ◌≤◌, true, cond, not, ◌&&◌, ltb, leb, List, [], ◌∷◌, ◌++◌, length, drop, is_some, Some, codes, sym, refl, ap, ◌∙◌, append_assoc, append-nil, arith, length-append}
 use lib.Bits.{bit_or}
 use Rattle.std.proofs.lemmas.Bool.{ne_eqb, lt-ltb, le-leb, and_from}
 use Rattle.lexer.specs.declared.fault.Layer.TheVariants.{Form, Line}
@@ -11,14 +11,14 @@ use Rattle.syntax.specs.declared.head.Head.{Head}
 use Rattle.syntax.specs.declared.head.Head.TheVariants.{True, At, Near, One, Two}
 use Rattle.syntax.specs.declared.head.Unary.{Unary}
 use Rattle.syntax.specs.declared.head.Unary.TheVariants.{Not, Next, Always}
-use Rattle.card.specs.Grammar.{Formula, truth, at, near, one, two, unary_word, binary_word, listed, spell, unary_size, binary_size, size, depth, signal, signals, Declared, AllDeclared, Distinct, Fits, Written, declarations, spelled, Within, Are}
+use Rattle.card.specs.Grammar.{Formula, truth, at, near, one, two, unary_word, binary_word, listed, spell, size, depth, signal, signals, Declared, AllDeclared, Fits, Written, declarations, spelled, Within, Are}
 use Rattle.card.specs.Layout.{arity, head_nodes, one_nodes, two_nodes}
-use Rattle.card.specs.Reading.{Due, Known, Step, on, no, admit, form, line, words, head, signal as a_signal, mask, new_name, numbers, place, limit, names, makes, parts, begun, named, marked, joined, closes, ends, opens, first_line, accepted, run, nothing, read_tokens}
+use Rattle.card.specs.Reading.{Due, Known, on, no, form, line, words, head, signal as a_signal, mask, numbers, place, limit, names, makes, parts, begun, named, marked, joined, closes, ends, opens, first_line, accepted, nothing, read_tokens}
 use Rattle.syntax.specs.Words.{head_of}
 use Rattle.syntax.specs.Signals.{signal_of}
-use Rattle.card.proofs.Compile.{compile, compile_size, one_size, two_size, size_pos}
+use Rattle.card.proofs.Compile.{compile, compile_size, one_size, two_size}
 use Rattle.card.proofs.Naming.{declared_found, undeclared_fresh, Fresh, distinct_fresh}
-use Rattle.card.proofs.Plain.{accepts, went, step, placed}
+use Rattle.card.proofs.Plain.{accepts, went, placed}
 
 -- the same but for the nodes
 abbrev pub with_nodes : Known → List Node → Known

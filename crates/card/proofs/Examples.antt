@@ -1,6 +1,6 @@
 use Rattle.std.proofs.Common.{◌≡◌, ℕ, List, [], ◌∷◌, ◌++◌, length, codes, refl}
-use Rattle.lexer.specs.declared.fault.Layer.TheVariants.{Token, Form, Line}
-use Rattle.card.specs.Reading.{reading, Known, Outcome, accepted, refused, faulty}
+use Rattle.lexer.specs.declared.fault.Layer.TheVariants.{Form, Line}
+use Rattle.card.specs.Reading.{reading, Outcome, accepted, refused, faulty}
 
 abbrev count : Outcome → List ℕ
 count (accepted x) = x.sessions ∷ length x.names ∷ length x.nodes ∷ []

@@ -5,13 +5,13 @@ use Rattle.lexer.specs.declared.fault.Layer.TheVariants.{Line}
 use Rattle.lexer.specs.Tokens.{Lexeme, Tokens, open_bracket, close_bracket, line_end, number, word}
 use Rattle.syntax.specs.declared.head.Topic.TheVariants as topic
 use Rattle.card.specs.Grammar.{Formula, spell, size, depth, Fits, Written, declarations, spelled, Within, Are}
-use Rattle.card.specs.Reading.{Due, Known, on, no, form, line, words, sessions_word, topic, new_name, numbers, sessions, closes, ends, opens, first_line, inside, after_topic, lined, accepted, nothing, read_tokens}
+use Rattle.card.specs.Reading.{Due, Known, on, no, line, words, sessions_word, topic, new_name, numbers, sessions, closes, ends, opens, first_line, inside, after_topic, lined, accepted, nothing, read_tokens}
 use Rattle.syntax.specs.Words.{same}
 use Rattle.syntax.specs.Signals.{signal_of, is_new}
 use Rattle.card.proofs.Complete.{extend, last_node, with_names, known_of, accepted_if}
 use Rattle.card.proofs.Naming.{impossible, same_is, fresh_undeclared, Fresh, fresh_distinct}
 use Rattle.card.proofs.Plain.{accepts, went, unplaced}
-use Rattle.card.proofs.Sound.{FormRead, sound, form_goes}
+use Rattle.card.proofs.Sound.{sound, form_goes}
 
 -- a token is read, and it is this one
 record Went (t : Lexeme) (us : List Lexeme) (ds : List Due) (vs : List ℕ) (room : ℕ) (x o : Known) : Type 0 where

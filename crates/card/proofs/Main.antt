@@ -1,19 +1,17 @@
 -- What the reading of a card says in the words of the grammar.
-use Rattle.std.proofs.Common.{◌≡◌, ℕ, ◌≤◌, Bool, true, false, cond, eqb, ltb, ◌⊎◌, List, [], ◌∷◌, length, Some, None, sym, refl, ap, ◌∙◌, subst, inl, inr, arith}
+use Rattle.std.proofs.Common.{◌≡◌, ℕ, ◌≤◌, Bool, true, false, cond, ltb, ◌⊎◌, List, [], ◌∷◌, length, sym, refl, ap, ◌∙◌, subst, inl, inr, arith}
 use Rattle.std.proofs.lemmas.Bool.{ltb-false, le-ltb}
-use Rattle.lexer.specs.declared.fault.Layer.{Layer}
 use Rattle.lexer.specs.declared.fault.Layer.TheVariants.{Line}
-use Rattle.lexer.specs.declared.fault.Position.{Position}
 use Rattle.lexer.specs.declared.fault.Report.{Report}
 use Rattle.lexer.specs.declared.fault.TokenFault.{TokenFault}
 use Rattle.lexer.specs.declared.fault.TokenFault.TheVariants.{Long, Byte, Run}
 use Rattle.lexer.specs.Faults.{token_report}
 use Rattle.lexer.specs.Lines.{OnLine, Lined, FaultOnLine}
-use Rattle.lexer.specs.Tokens.{Lexeme, Tokens, token, over, bad, card_tokens}
+use Rattle.lexer.specs.Tokens.{Tokens, token, over, bad, card_tokens}
 use Rattle.rule.specs.Nodes.{root, TableFits}
 use Rattle.card.specs.Cards.{Writes}
-use Rattle.card.specs.Grammar.{Written, spelled, size, meaning, Within, Are}
-use Rattle.card.specs.Reading.{Due, Known, Step, on, no, admit, layer, Outcome, accepted, refused, faulty, settled, run, opens, first_line, nothing, read_tokens, reading}
+use Rattle.card.specs.Grammar.{Written, size, meaning}
+use Rattle.card.specs.Reading.{Due, Known, Step, on, no, admit, layer, accepted, refused, settled, run, opens, first_line, nothing, read_tokens, reading}
 use Rattle.card.proofs.Compile.{compile_size, compile_fits, compile_root}
 use Rattle.card.proofs.Complete.{known_of, accepted_if}
 use Rattle.card.proofs.Lines.{accepted_only}

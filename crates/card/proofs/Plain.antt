@@ -1,9 +1,8 @@
 -- The reading of tokens with no regard to their positions.
 use Rattle.std.proofs.Common.{◌≡◌, ℕ, List, [], ◌∷◌, Some, None, Option, sym, refl, ap, ◌∙◌, subst, arith}
-use Rattle.lexer.specs.declared.fault.Position.{Position}
 use Rattle.lexer.specs.Tokens.{Lexeme, Tokens, token, over, bad}
 use Rattle.card.specs.Grammar.{Are}
-use Rattle.card.specs.Reading.{Due, Known, Step, on, no, admit, Outcome, accepted, refused, settled, run}
+use Rattle.card.specs.Reading.{Due, Known, Step, on, no, admit, accepted, settled, run}
 
 -- the reading goes on with what a token leads to
 abbrev pub went : (List Due → List ℕ → ℕ → Known → Option Known) → Step → Option Known

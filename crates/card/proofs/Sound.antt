@@ -1,20 +1,18 @@
 -- Accepted tokens of a form are those of a form of the grammar, within the limits.
-use Rattle.std.proofs.Common.{◌≡◌, ℕ, zero, suc, ◌+◌, ◌-◌, ◌^◌, ◌<◌, ◌≤◌, max, Bool, true, false, cond, ◌&&◌, eqb, leb, List, [], ◌∷◌, ◌++◌, length, drop, Some, None, codes, Option, sym, refl, ap, ◌∙◌, subst, arith}
+use Rattle.std.proofs.Common.{◌≡◌, ℕ, zero, suc, ◌+◌, ◌-◌, ◌^◌, ◌<◌, ◌≤◌, Bool, true, false, cond, ◌&&◌, eqb, leb, List, [], ◌∷◌, ◌++◌, length, drop, Some, None, codes, Option, sym, refl, ap, ◌∙◌, subst, arith}
 use lib.Bits.{bit_or}
 use Rattle.std.proofs.lemmas.Bool.{and_parts, leb-true, eqb-false}
 use Rattle.lexer.specs.declared.fault.Layer.{Layer}
-use Rattle.lexer.specs.declared.fault.Layer.TheVariants.{Form, Line}
+use Rattle.lexer.specs.declared.fault.Layer.TheVariants.{Form}
 use Rattle.lexer.specs.Tokens.{Lexeme, open_bracket, close_bracket, line_end, number, word}
 use Rattle.rule.specs.declared.node.Node.{Node}
-use Rattle.syntax.specs.declared.head.Binary.{Binary}
 use Rattle.syntax.specs.declared.head.Binary.TheVariants.{And, Or, Until, Iff, Weak}
 use Rattle.syntax.specs.declared.head.Head.{Head}
 use Rattle.syntax.specs.declared.head.Head.TheVariants.{True, At, Near, One, Two}
-use Rattle.syntax.specs.declared.head.Unary.{Unary}
 use Rattle.syntax.specs.declared.head.Unary.TheVariants.{Not, Next, Always}
 use Rattle.card.specs.Grammar.{Formula, truth, at, near, one, two, unary_word, binary_word, listed, spell, size, depth, Declared, AllDeclared, Fits}
-use Rattle.card.specs.Layout.{arity, head_nodes, one_nodes, two_nodes}
-use Rattle.card.specs.Reading.{Due, Known, Step, on, no, form, words, head, signal, mask, numbers, place, limit, names, makes, parts, begun, named, marked, joined, adding}
+use Rattle.card.specs.Layout.{arity, head_nodes}
+use Rattle.card.specs.Reading.{Due, Known, on, no, form, words, head, signal, mask, numbers, place, limit, names, makes, parts, begun, named, marked, joined, adding}
 use Rattle.syntax.specs.Words.{same, head_of}
 use Rattle.syntax.specs.Signals.{signal_of}
 use Rattle.card.proofs.Compile.{one_size, two_size}

@@ -1,6 +1,6 @@
 -- Tokens are those of one card at most.
-use Rattle.std.proofs.Common.{◌≡◌, ℕ, Bool, true, false, List, [], ◌∷◌, Some, codes, Option, sym, refl, ap, ◌∙◌, arith}
-use Rattle.lexer.specs.Tokens.{Lexeme, Tokens, token, over, bad, open_bracket, close_bracket, line_end, number, word}
+use Rattle.std.proofs.Common.{◌≡◌, ℕ, Bool, true, false, List, [], ◌∷◌, Some, codes, sym, refl, ap, ◌∙◌, arith}
+use Rattle.lexer.specs.Tokens.{Lexeme, Tokens, token, over, bad, open_bracket, close_bracket, line_end, word}
 use Rattle.syntax.specs.declared.head.Binary.TheVariants.{And, Or, Until, Iff, Weak}
 use Rattle.syntax.specs.declared.head.Head.{Head}
 use Rattle.syntax.specs.declared.head.Head.TheVariants.{True, At, Near, One, Two}

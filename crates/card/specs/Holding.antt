@@ -1,8 +1,6 @@
 -- What a reader has left to read and knows, and what its answers say.
-use Rattle.std.specs.Prelude.{◌≡◌, ℕ, cond, List, [], ◌∷◌, ◌++◌, Ok, Err, Result, ◌==◌}
+use Rattle.std.specs.Prelude.{ℕ, cond, List, ◌∷◌, ◌++◌, Ok, Err, Result, ◌==◌}
 use Rattle.fixed_vec.specs.Items.{items_of}
-use Rattle.lexer.specs.declared.fault.Layer.TheVariants.{Form}
-use Rattle.lexer.specs.declared.fault.Position.{Position}
 use Rattle.lexer.specs.declared.fault.TokenFault.{TokenFault}
 use Rattle.lexer.specs.declared.token.Spot.{Spot}
 use Rattle.lexer.specs.declared.token.Token.{Token}
@@ -17,7 +15,7 @@ use Rattle.card.specs.declared.reader.Draft.{Draft}
 use Rattle.card.specs.declared.reader.Reader.{Reader}
 use Rattle.syntax.specs.Faults.{form_report, line_report}
 use Rattle.syntax.specs.Named.{names_of}
-use Rattle.card.specs.Reading.{Due, Known, Outcome, accepted, refused, faulty, run, line, after_topic}
+use Rattle.card.specs.Reading.{Due, Known, Outcome, accepted, refused, run, line, after_topic}
 
 abbrev pub drafted : Draft → Known
 drafted d = record { sessions = d.sessions; names = names_of d.names; nodes = items_of d.nodes }

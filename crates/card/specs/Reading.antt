@@ -1,5 +1,5 @@
 -- The reading of a card, token by token: what may come next, and what each fault is.
-use Rattle.std.specs.Prelude.{ℕ, ◌+◌, ◌-◌, ◌^◌, Bool, cond, ◌&&◌, List, [], ◌∷◌, ◌++◌, length, drop, Some, None, codes, Option, ◌==◌, bit_or, nat_le, nat_lt, slice_index}
+use Rattle.std.specs.Prelude.{ℕ, ◌+◌, ◌-◌, ◌^◌, cond, ◌&&◌, List, [], ◌∷◌, ◌++◌, length, drop, Some, None, codes, Option, ◌==◌, bit_or, nat_le, nat_lt, slice_index}
 use Rattle.lexer.specs.declared.fault.Layer.{Layer}
 use Rattle.lexer.specs.declared.fault.Layer.TheVariants.{Form, Line}
 use Rattle.lexer.specs.declared.fault.Position.{Position}

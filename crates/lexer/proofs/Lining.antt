@@ -1,10 +1,9 @@
 -- Each token has the line of its place.
-use Rattle.std.proofs.Common.{◌≡◌, ℕ, ◌+◌, Bool, true, false, cond, eqb, ltb, List, [], ◌∷◌, ◌++◌, length, take, Some, None, Option, sym, refl, ap, ◌∙◌, subst, append_assoc, arith, length-append}
+use Rattle.std.proofs.Common.{◌≡◌, ℕ, ◌+◌, Bool, true, false, cond, eqb, ltb, List, [], ◌∷◌, ◌++◌, length, Some, None, Option, sym, refl, ap, ◌∙◌, subst, append_assoc, arith, length-append}
 use Rattle.std.proofs.lemmas.List.{take_at}
-use Rattle.std.proofs.lemmas.Bool.{cases_eq}
 use Rattle.std.proofs.lemmas.Bool.Decides.{nat_tests}
 use Rattle.lexer.specs.declared.fault.Position.{Position}
-use Rattle.lexer.specs.declared.fault.TokenFault.TheVariants.{Byte, Run}
+use Rattle.lexer.specs.declared.fault.TokenFault.TheVariants.{Run}
 use Rattle.lexer.specs.declared.kind.Kind.{Kind}
 use Rattle.lexer.specs.declared.kind.Kind.TheVariants.{Space, Open, Close, LineEnd, Letter, Digit, Other}
 use Rattle.lexer.specs.Lines.{line_ends, OnLine, Lined}

@@ -1,12 +1,12 @@
 -- How the tokens of a card go on from a position.
-use Rattle.std.proofs.Common.{◌≡◌, ℕ, suc, ◌+◌, ◌-◌, ◌<◌, ◌≤◌, Bool, true, false, cond, ltb, List, [], ◌∷◌, length, get_or, take, drop, Some, None, sym, refl, ap, ◌∙◌, subst, add-zero, arith}
+use Rattle.std.proofs.Common.{◌≡◌, ℕ, suc, ◌+◌, ◌-◌, ◌<◌, ◌≤◌, true, false, cond, ltb, List, [], ◌∷◌, length, get_or, take, drop, Some, None, sym, refl, ap, ◌∙◌, subst, add-zero, arith}
 use Rattle.std.proofs.lemmas.List.{drop_more, drop-drop, drop_all}
 use Rattle.std.proofs.lemmas.Bool.{lt-ltb, le-ltb}
 use Rattle.lexer.specs.declared.fault.Position.{Position}
 use Rattle.lexer.specs.declared.fault.TokenFault.TheVariants.{Run}
 use Rattle.lexer.specs.declared.kind.Kind.{Kind}
 use Rattle.lexer.specs.declared.kind.Kind.TheVariants.{Space, Open, Close, LineEnd, Letter, Digit, Other}
-use Rattle.lexer.specs.Tokens.{Tokens, token, over, bad, word, number, kind, wordy, span, run, number_value, numbered, starts, spoils, begins, put, line_after, after, tokens}
+use Rattle.lexer.specs.Tokens.{token, over, bad, word, number, kind, wordy, span, run, number_value, numbered, starts, spoils, begins, put, after, tokens}
 use Rattle.lexer.specs.Places.{tokens_at, forward}
 
 -- the tokens from the byte at p on, by its kind

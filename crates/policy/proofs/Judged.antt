@@ -1,5 +1,5 @@
 -- The laws of a policy, from those of the relations that its answers are.
-use Rattle.std.proofs.Common.{◌≡◌, ℕ, ◌<◌, ◌≤◌, true, [], length, get_or, set, sym, refl, subst}
+use Rattle.std.proofs.Common.{ℕ, ◌<◌, ◌≤◌, [], length, get_or, set, sym, subst}
 use Rattle.policy.specs.Policy.{Meaning, Lawful, Judges}
 use Rattle.policy.specs.Sessions.{Session, IsSession, Tuple, IsTuple}
 

@@ -1,5 +1,5 @@
 -- What the tests of sessions and tuples tell.
-use Rattle.std.proofs.Common.{◌≡◌, ℕ, ◌<◌, ◌≤◌, Bool, true, ◌&&◌, eqb, leb, [], length, get_or, Decides, refl, subst}
+use Rattle.std.proofs.Common.{◌≡◌, ℕ, ◌<◌, ◌≤◌, Bool, true, ◌&&◌, leb, [], length, get_or, Decides, refl, subst}
 use Rattle.std.proofs.lemmas.Bool.{leb-true, le-leb}
 use Rattle.std.proofs.lemmas.Bool.Decides.{Decides-and, Decides-eqb, Decides-like, Decides-below_and}
 use Rattle.policy.specs.Sessions.{On, Session, Tuple, IsSession, IsTuple}

@@ -1,5 +1,5 @@
 -- What a policy means, and the laws that every policy keeps.
-use Rattle.std.specs.Prelude.{◌≡◌, ℕ, ◌<◌, ◌≤◌, Bool, true, [], length, set, Decides, slice_index_or, slice_set}
+use Rattle.std.specs.Prelude.{◌≡◌, ℕ, ◌<◌, ◌≤◌, Bool, true, [], length, Decides, slice_index_or, slice_set}
 use Rattle.policy.specs.Sessions.{Session, IsSession, Tuple, IsTuple, letter, shortest}
 
 -- how many places there are, which tuples break the policy, and which session stands for which

@@ -1,5 +1,5 @@
 -- What is said of the worked samples is what the meaning of rules gives, by one test.
-use Rattle.std.proofs.Common.{◌≡◌, ℕ, zero, suc, ◌<◌, ◌≤◌, Bool, true, false, not, ◌&&◌, leb, List, [], ◌∷◌, map, length, get_or, Some, None, Decides, MatchBool, Option, sym, refl, ◌∙◌, arith}
+use Rattle.std.proofs.Common.{◌≡◌, ℕ, zero, suc, ◌<◌, Bool, true, false, not, ◌&&◌, leb, List, [], ◌∷◌, map, length, get_or, Some, Decides, MatchBool, sym, refl, ◌∙◌, arith}
 use Rattle.std.specs.Option.{option_map}
 use Rattle.std.specs.List.{AllByRecursion as All, slice_get}
 use Rattle.std.proofs.lemmas.Bool.{and_parts, leb-true, false≢true}
@@ -7,7 +7,6 @@ use Rattle.policy.proofs.Tested.{tuple_decides}
 use Rattle.policy.proofs.Tuples.{steps_between}
 use Rattle.policy.specs.Sessions.{apart, counted, shortest}
 use Rattle.policy.specs.Testing.{tuple_test}
-use Rattle.rule.specs.Meaning.{Holds, Breaks}
 use Rattle.table_policy.specs.Evaluating.{eval, until_back}
 use Rattle.table_policy.specs.Samples.{Sample, Right, samples}
 use Rattle.table_policy.specs.Deciding.{eval_holds}

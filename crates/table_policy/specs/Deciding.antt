@@ -1,6 +1,6 @@
 -- The truth of a rule as a test is its meaning.
-use Rattle.std.specs.Prelude.{◌≡◌, ℕ, zero, suc, ◌+◌, ◌-◌, ◌/◌, ◌%◌, ◌^◌, ◌<◌, ◌≤◌, Bool, true, false, not, ◌&&◌, ◌||◌, leb, ◌⊎◌, Decides, ◌≢◌, nat_le}
-use Rattle.std.proofs.Common.{inl, inr, ⊎_elim, sym, ap, subst, ◌∙◌}
+use Rattle.std.specs.Prelude.{◌≡◌, ℕ, zero, suc, ◌+◌, ◌-◌, ◌/◌, ◌%◌, ◌^◌, ◌<◌, ◌≤◌, Bool, false, not, ◌&&◌, ◌||◌, leb, ◌⊎◌, Decides, ◌≢◌, nat_le}
+use Rattle.std.proofs.Common.{inl, inr, ⊎_elim, sym, ap, subst}
 use Rattle.std.proofs.Math.Path.{refl, ap₂}
 use native.Mathlib.Omega.{arith}
 use Rattle.std.proofs.lemmas.Bool.{false≢true, cases_eq}

@@ -1,5 +1,5 @@
 -- A rule as a policy: its answers are the rule's meaning, and keep the laws.
-use Rattle.std.specs.Prelude.{◌≡◌, ℕ, ◌<◌, ◌≤◌, Bool, true, false, not, ◌&&◌, [], length, get_or, Decides, refl}
+use Rattle.std.specs.Prelude.{◌≡◌, ℕ, ◌<◌, ◌≤◌, Bool, true, false, not, ◌&&◌, Decides, refl}
 use Rattle.std.proofs.Common.{sym, ap, ap₂, subst, ◌∙◌, arith}
 use Rattle.std.proofs.lemmas.Bool.{false≢true}
 use Rattle.std.proofs.lemmas.Bool.Decides.{Decides-not, Decides-and, Decides-like, Decides-at, not_from_Decides, same_from_decides}
@@ -9,8 +9,8 @@ use Rattle.policy.proofs.Tuples.{steps_between}
 use Rattle.policy.specs.Policy.{Judges, Lawful}
 use Rattle.policy.specs.Sessions.{Session, Tuple, IsTuple, letter, shortest}
 use Rattle.policy.specs.Standing.{StandsBy}
-use Rattle.policy.specs.Testing.{tuple_test, stands_test}
-use Rattle.rule.specs.Meaning.{Holds, Breaks}
+use Rattle.policy.specs.Testing.{stands_test}
+use Rattle.rule.specs.Meaning.{Breaks}
 use Rattle.rule.specs.Rule.{Rule}
 use Rattle.rule.specs.Standing.{StandsFor}
 use Rattle.table_policy.specs.Evaluating.{eval, breaks_test}

@@ -3,7 +3,7 @@ use Rattle.std.specs.Prelude.{◌≡◌, ℕ, ◌^◌, ◌<◌, Bool, true, fals
 use Rattle.std.proofs.Common.{inl, inr, ⊎_elim, sym, ap, ap₂, subst, ◌∙◌, mod-eq_of_lt, lt_of_le_of_lt}
 use Rattle.std.proofs.lemmas.Nat.{and_le_l}
 use Rattle.policy.proofs.Digits.{Digit, off, on', digit, digit_is, digit_and, digit_xor, ones_counted, counted_same, tells_digit, on_zero, on_pow, pow_on, on_or, or_on}
-use Rattle.policy.specs.Sessions.{On, on, apart, counted}
+use Rattle.policy.specs.Sessions.{On, on, apart}
 use Rattle.rule.specs.Meaning.{differing}
 use Rattle.rule.specs.Rule.{Rule, truth, at, near, negation, both, either, next, until}
 use Rattle.rule.specs.Standing.{Looks}

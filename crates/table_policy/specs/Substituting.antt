@@ -1,12 +1,12 @@
 -- A session that stands for another can take its place.
-use Rattle.std.specs.Prelude.{◌≡◌, ℕ, ◌+◌, ◌<◌, ◌≤◌, Bool, true, false, [], length, get_or, slice_index, slice_index_or, slice_set, refl}
+use Rattle.std.specs.Prelude.{◌≡◌, ℕ, ◌+◌, ◌<◌, ◌≤◌, true, false, [], length, get_or, slice_index, slice_index_or, slice_set, refl}
 use Rattle.std.proofs.Common.{inl, inr, ⊎_elim, sym, subst, ◌∙◌, arith}
 use Rattle.std.proofs.lemmas.List.{get_or_past}
 use Rattle.std.proofs.lemmas.Bool.{cases_lt}
 use Rattle.policy.proofs.Digits.{digit, digit_is, digit_same}
 use Rattle.policy.proofs.Tuples.{at_each, shortest_set, tuple_set}
 use Rattle.policy.specs.Sessions.{Session, Tuple, On, letter, shortest, IsSession, IsTuple}
-use Rattle.rule.specs.Meaning.{HoldsIn, Holds, Breaks}
+use Rattle.rule.specs.Meaning.{HoldsIn, Breaks}
 use Rattle.rule.specs.Rule.{Rule, truth, at, near, negation, both, either, next, until}
 use Rattle.rule.specs.Standing.{Looks, StandsFor}
 use Rattle.table_policy.specs.Signals.{differing_same}

@@ -8,14 +8,12 @@ use Rattle.rule.specs.Tables.{HoldsNodes}
 use Rattle.card.specs.declared.card.Card.{Card}
 use Rattle.syntax.specs.declared.fault.LineFault.{LineFault}
 use Rattle.syntax.specs.declared.names.Names.{Names}
-use Rattle.card.specs.Cards.{said, Writes, Agrees, Decided, LinedFault}
+use Rattle.card.specs.Cards.{said, Decided, LinedFault}
 use Rattle.syntax.specs.Faults.{line_report}
-use Rattle.card.specs.Grammar.{Written}
 use Rattle.card.specs.Holding.{drafted}
 use Rattle.syntax.specs.Named.{names_of}
 use Rattle.card.specs.Reading.{Known, accepted, refused, reading}
-use Rattle.card.proofs.Complete.{known_of}
-use Rattle.card.proofs.Main.{Accepted, accepted_card, accepted_fits, accepted_rule, accepted_size, refused_card, refused_lined}
+use Rattle.card.proofs.Main.{accepted_card, accepted_fits, accepted_rule, accepted_size, refused_card, refused_lined}
 use Rattle.card.proofs.card.read.Goals as goal
 
 record Answer (bytes : List ℕ) (r : Result Card LineFault) : Type 0 where

@@ -1,4 +1,4 @@
-use Rattle.std.proofs.Common.{◌≡◌, ℕ, List, [], ◌∷◌, get_or, ap, ◌∙◌, ap₂}
+use Rattle.std.proofs.Common.{◌≡◌, ℕ, [], ◌∷◌, get_or, ap, ◌∙◌, ap₂}
 use Rattle.policy.specs.Sessions.{Session, letter, sessions}
 use Rattle.policy.proofs.Places.{nowhere, sessions_at}
 use Rattle.policy.proofs.tuple.letters_at.Goals as goal

@@ -1,4 +1,4 @@
-use Rattle.std.proofs.Common.{◌≡◌, ◌+◌, ◌++◌, length, sym, ap, ◌∙◌, arith}
+use Rattle.std.proofs.Common.{◌+◌, ◌++◌, length, ap, ◌∙◌, arith}
 use Rattle.fixed_vec.specs.Items.{items_of}
 use Rattle.portbook.proofs.Digits.{some_room, one_more, the_last}
 use Rattle.portbook.proofs.decimal.put_decimal.Goals as goal

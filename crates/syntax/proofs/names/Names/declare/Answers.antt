@@ -1,4 +1,4 @@
-use Rattle.std.proofs.Common.{cond, not, ◌&&◌, ltb, ◌++◌, length, is_some, sym, ap, ◌∙◌, arith}
+use Rattle.std.proofs.Common.{not, ◌&&◌, ltb, ◌++◌, length, is_some, sym, ap, ◌∙◌, arith}
 use Rattle.std.proofs.lemmas.List.{length-map}
 use Rattle.std.proofs.lemmas.Bool.{leb-true}
 use Rattle.fixed_vec.specs.Items.{items_of}

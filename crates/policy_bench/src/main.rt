@@ -21,7 +21,7 @@ const STEPS: u128 = 128;
 /// Whether the program was asked for times.
 fn is_timed(rt: &HostRuntime) -> io::Result<bool> {
     for word in env::args(rt)? {
-        if word == "time" {
+        if word.as_str() == "time" {
             return Ok(true);
         }
     }

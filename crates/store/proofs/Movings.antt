@@ -1,7 +1,7 @@
 -- A turn of the loop that moves sessions down.
 use Rattle.std.proofs.Common.{◌≡◌, ℕ, ◌+◌, ◌<◌, ◌≤◌, true, false, List, [], ◌∷◌, ◌++◌, length, get_or, take, drop, sum_by, sym, refl, ap, ◌∙◌, arith, length-drop}
 use lib.Seq.{paste}
-use Rattle.std.specs.List.{AllByRecursion as All}
+use Rattle.std.specs.List.{AllByRecursion}
 use Rattle.std.proofs.lemmas.List.Edits.{length-paste}
 use Rattle.std.proofs.ByRecursion.{All-take, All-get_or}
 use Rattle.std.proofs.lemmas.List.{take_more, length-take-le}
@@ -37,11 +37,11 @@ moving_none layout ps hs m ks e = record {
 
 module _ {layout : Layout} {ps : List ℕ} {hs : List Header} {m₀ : List ℕ} {ks : List Header} {m : List ℕ} {i from to : ℕ} (d : Header)
     (h : Moving layout ps hs m₀ ks m i from to)
-    (lt : i < length hs) (short : All (λ x. x.len ≤ 128) hs) (inside : room_of layout hs ≤ length m₀) where
+    (lt : i < length hs) (short : AllByRecursion (λ x. x.len ≤ 128) hs) (inside : room_of layout hs ≤ length m₀) where
   abbrev f : Header → ℕ
   f = pitch layout
 
-  wide : All (λ x. x.len ≤ f x) hs
+  wide : AllByRecursion (λ x. x.len ≤ f x) hs
   wide = all_wide layout hs short
 
   next_is : from + f (get_or hs i d) ≡ sum_by f (take (i + 1) hs)
@@ -67,7 +67,7 @@ module _ {layout : Layout} {ps : List ℕ} {hs : List Header} {m₀ : List ℕ} 
   pub few_left : length ks ≤ i
   few_left = omega (arith, ap length h.headers_left, length_left_le ps 0 (take i hs), length-take-le i hs (omega arith))
 
-  wide_left : All (λ x. x.len ≤ f x) ks
+  wide_left : AllByRecursion (λ x. x.len ≤ f x) ks
   wide_left = rw h.headers_left (all_left ps (λ x. x.len ≤ f x) 0 (take i hs) (All-take (λ x. x.len ≤ f x) i hs wide))
 
   size : length (take i hs) ≡ i

@@ -4,7 +4,7 @@ use Rattle.std.proofs.Common.{sym, ap, ◌∙◌, zero-add, arith, length-take, 
 use Rattle.std.proofs.Math.Seq.{paste}
 use Rattle.std.specs.Vec.{with_items}
 use Rattle.std.specs.Option.{option_map}
-use Rattle.std.specs.List.{AllByRecursion as All, slice_get}
+use Rattle.std.specs.List.{AllByRecursion, slice_get}
 use Rattle.std.proofs.lemmas.List.Edits.{paste_all}
 use Rattle.std.proofs.ByRecursion.{All-get_or, All-push}
 use Rattle.std.proofs.lemmas.List.{take_all, take_at, length-take-le, length-map, length_push}
@@ -34,13 +34,13 @@ pub record Held (layout : Layout) (a : Arena) : Type 0 where
   pub lent : a.room ≤ vec_len a.memory
   pub kept : length (headers_in a) ≤ a.sessions
   pub full : room_of layout (headers_in a) ≤ a.room
-  pub short : All (λ h. h.len ≤ 128) (headers_in a)
+  pub short : AllByRecursion (λ h. h.len ≤ 128) (headers_in a)
 
-short_true : (hs : List Header) → all_short hs ≡ true → All (λ h. h.len ≤ 128) hs
+short_true : (hs : List Header) → all_short hs ≡ true → AllByRecursion (λ h. h.len ≤ 128) hs
 short_true [] t = tt
 short_true (h ∷ hs) t = let p = and_parts _ _ t in (leb-true _ _ p.0, short_true hs p.1)
 
-true_short : (hs : List Header) → All (λ h. h.len ≤ 128) hs → all_short hs ≡ true
+true_short : (hs : List Header) → AllByRecursion (λ h. h.len ≤ 128) hs → all_short hs ≡ true
 true_short [] short = refl
 true_short (h ∷ hs) short = and_from _ _ (le-leb _ _ short.0) (true_short hs short.1)
 
@@ -92,7 +92,7 @@ abbrev letters_or : Option Entry → List ℕ
 letters_or None = []
 letters_or (Some e) = e.letters
 
-sum_le : (layout : Layout) (hs : List Header) → All (λ h. h.len ≤ 128) hs → letters_of hs ≤ room_of layout hs
+sum_le : (layout : Layout) (hs : List Header) → AllByRecursion (λ h. h.len ≤ 128) hs → letters_of hs ≤ room_of layout hs
 sum_le layout [] short = omega arith
 sum_le layout (h ∷ hs) short = omega (arith, sum_by-cons (λ (x : Header). x.len) h hs, sum_by-cons (pitch layout) h hs, pitch_le layout h short.0, sum_le layout hs short.1)
 
@@ -100,7 +100,7 @@ sum_by_map : {X Y : Type 0} (g : Y → ℕ) (f : X → Y) (xs : List X) → sum_
 sum_by_map g f [] = refl
 sum_by_map g f (x ∷ xs) = omega (arith, sum_by-cons g (f x) (map f xs), sum_by_map g f xs, sum_by-cons (λ y. g (f y)) x xs)
 
-short_spread : (f : Header → ℕ) (hs : List Header) (m : List ℕ) → All (λ h. h.len ≤ 128) hs → All (λ e. length e.letters ≤ 128) (spread f hs m)
+short_spread : (f : Header → ℕ) (hs : List Header) (m : List ℕ) → AllByRecursion (λ h. h.len ≤ 128) hs → AllByRecursion (λ e. length e.letters ≤ 128) (spread f hs m)
 short_spread f [] m short = tt
 short_spread f (h ∷ hs) m short = (omega (arith, length-take h.len m, short.0), short_spread f hs (drop (f h) m) short.1)
 
@@ -179,7 +179,7 @@ module _ (layout : Layout) (a : Arena) (t : held layout a ≡ true) where
     many : length ks ≡ length (headers_in a)
     many = ap length e
 
-    brief : All (λ h. h.len ≤ 128) ks
+    brief : AllByRecursion (λ h. h.len ≤ 128) ks
     brief = rw e h.short
 
     pub list_few : length ks ≤ 64
@@ -234,7 +234,7 @@ module _ (layout : Layout) (a : Arena) (t : held layout a ≡ true) where
         let new : Header = record { number = n; len = k } in
         let sessions : b.sessions ≡ a.sessions = ap (λ l. l.sessions) limits in
         let most : b.room ≡ a.room = ap (λ l. l.letters) limits in
-        let short : All (λ h. h.len ≤ 128) (headers_left a ps) = all_left ps (λ h. h.len ≤ 128) 0 (headers_in a) h.short in
+        let short : AllByRecursion (λ h. h.len ≤ 128) (headers_left a ps) = all_left ps (λ h. h.len ≤ 128) 0 (headers_in a) h.short in
         facts_held layout b (record {
           some = omega (arith, h.some);
           few = omega (arith, h.few);
@@ -270,7 +270,7 @@ pub lie_end_to_end : (a : Arena) → held Packed a ≡ true → LieEndToEnd (ent
 lie_end_to_end a t = packed_front (headers_in a) (vec_items a.memory) (arena_inside Packed a t) ∙ ap (λ n. take n (vec_items a.memory)) (sym (arena_letters Packed a t))
 
 -- a new session behind those that are left
-pub exchange_is : (layout : Layout) (ps : List ℕ) (es : List Entry) (ks hs : List Header) (m m' s : List ℕ) (n end : ℕ) → end ≡ room_of layout ks → All (λ h. h.len ≤ 128) ks → end + length s ≤ length m → spread (pitch layout) ks m ≡ left_from 0 ps es → hs ≡ ks ++ record { number = n; len = length s } ∷ [] → m' ≡ paste m end s (length s) → spread (pitch layout) hs m' ≡ exchanged ps es (record { number = n; letters = s })
+pub exchange_is : (layout : Layout) (ps : List ℕ) (es : List Entry) (ks hs : List Header) (m m' s : List ℕ) (n end : ℕ) → end ≡ room_of layout ks → AllByRecursion (λ h. h.len ≤ 128) ks → end + length s ≤ length m → spread (pitch layout) ks m ≡ left_from 0 ps es → hs ≡ ks ++ record { number = n; len = length s } ∷ [] → m' ≡ paste m end s (length s) → spread (pitch layout) hs m' ≡ exchanged ps es (record { number = n; letters = s })
 exchange_is layout ps es ks hs m m' s n end at short fits left headers written =
     let new : Header = record { number = n; len = length s } in
     rw (headers, written) (spread_put (pitch layout) ks m s new end at (all_wide layout ks short) fits (omega arith))

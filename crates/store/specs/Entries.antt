@@ -1,6 +1,6 @@
 -- What a store holds, and the law that every store keeps.
 use Rattle.std.specs.Prelude.{ℕ, suc, ◌≤◌, Bool, false, cond, ◌&&◌, ◌||◌, List, [], ◌∷◌, ◌++◌, length, drop, Some, None, sum_by, Option, ◌==◌, nat_le}
-use Rattle.std.specs.List.{AllByRecursion as All, slice_get}
+use Rattle.std.specs.List.{AllByRecursion, slice_get}
 
 -- a kept session: its number and its letters
 pub record Entry : Type 0 where
@@ -56,4 +56,4 @@ pub record Within (b : Limits) (es : List Entry) : Type 0 where
   pub few_letters : b.letters ≤ 8192
   pub kept : length es ≤ b.sessions
   pub room : letters_in es ≤ b.letters
-  pub short : All (λ e. length e.letters ≤ 128) es
+  pub short : AllByRecursion (λ e. length e.letters ≤ 128) es

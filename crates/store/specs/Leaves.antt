@@ -1,7 +1,7 @@
 -- What is left of a list where some places are named.
 use Rattle.std.specs.Prelude.{◌≡◌, ℕ, suc, ◌+◌, ◌<◌, ◌≤◌, Bool, true, false, cond, List, [], ◌∷◌, ◌++◌, map, length, take, sum_by, slice_index_or, refl}
 use Rattle.std.proofs.Common.{ap, ◌∙◌, add-zero, arith}
-use Rattle.std.specs.List.{AllByRecursion as All}
+use Rattle.std.specs.List.{AllByRecursion}
 use Rattle.std.proofs.lemmas.List.{take_more, length-take-le, append-nil}
 use Rattle.std.proofs.lemmas.List.Sums.{sum_by-cons}
 use Rattle.store.specs.declared.layout.Header.{Header}
@@ -40,11 +40,11 @@ module _ {X : Type 0} (ps : List ℕ) where
       let at : (0 + length xs) ≡ i = omega arith in
       left_push 0 xs x ∙ rw (at, t)
 
-  pub all_left : (P : X → Type 0) (p : ℕ) (xs : List X) → All P xs → All P (left_from p ps xs)
+  pub all_left : (P : X → Type 0) (p : ℕ) (xs : List X) → AllByRecursion P xs → AllByRecursion P (left_from p ps xs)
   all_left P p [] h = tt
   all_left P p (x ∷ xs) h = choose (all_left P (suc p) xs h.1) (mentions p ps)
     where
-      choose : All P (left_from (suc p) ps xs) → (t : Bool) → All P (cond t (left_from (suc p) ps xs) (x ∷ left_from (suc p) ps xs))
+      choose : AllByRecursion P (left_from (suc p) ps xs) → (t : Bool) → AllByRecursion P (cond t (left_from (suc p) ps xs) (x ∷ left_from (suc p) ps xs))
       choose rest true = rest
       choose rest false = (h.0, rest)
 

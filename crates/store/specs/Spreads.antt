@@ -2,7 +2,7 @@
 use Rattle.std.specs.Prelude.{◌≡◌, ℕ, zero, suc, ◌+◌, ◌<◌, ◌≤◌, List, [], ◌∷◌, ◌++◌, map, length, take, drop, Some, sum_by, slice_index_or, refl}
 use Rattle.std.proofs.Common.{sym, ap, ◌∙◌, arith, length-drop}
 use Rattle.std.proofs.Math.Seq.{paste}
-use Rattle.std.specs.List.{AllByRecursion as All, slice_get}
+use Rattle.std.specs.List.{AllByRecursion, slice_get}
 use Rattle.std.proofs.lemmas.List.Edits.{take-paste}
 use Rattle.std.proofs.ByRecursion.{All-weaker}
 use Rattle.std.proofs.lemmas.List.{drop-drop, take-take, drop-take, length-take-le, take_at, drop_at}
@@ -25,7 +25,7 @@ pub pitch_le : (layout : Layout) (h : Header) → h.len ≤ 128 → h.len ≤ pi
 pitch_le Slots h short = short
 pitch_le Packed h short = omega arith
 
-pub all_wide : (layout : Layout) (hs : List Header) → All (λ h. h.len ≤ 128) hs → All (λ h. h.len ≤ pitch layout h) hs
+pub all_wide : (layout : Layout) (hs : List Header) → AllByRecursion (λ h. h.len ≤ 128) hs → AllByRecursion (λ h. h.len ≤ pitch layout h) hs
 all_wide layout hs short = All-weaker (λ h. h.len ≤ 128) (λ h. h.len ≤ pitch layout h) (pitch_le layout) hs short
 
 module _ (f : Header → ℕ) where
@@ -37,7 +37,7 @@ module _ (f : Header → ℕ) where
       ap (λ es. front x m ∷ es) (spread_push hs (drop (f x) m) h ∙ ap (λ xs. spread f hs (drop (f x) m) ++ front h xs ∷ []) at)
 
   -- they are read off the letters up to their end alone
-  pub spread_front : (hs : List Header) (m m' : List ℕ) (a : ℕ) → All (λ h. h.len ≤ f h) hs → sum_by f hs ≤ a → take a m ≡ take a m' → spread f hs m ≡ spread f hs m'
+  pub spread_front : (hs : List Header) (m m' : List ℕ) (a : ℕ) → AllByRecursion (λ h. h.len ≤ f h) hs → sum_by f hs ≤ a → take a m ≡ take a m' → spread f hs m ≡ spread f hs m'
   spread_front [] m m' a wide le e = refl
   spread_front (h ∷ hs) m m' a wide le e =
       let s = sum_by-cons f h hs in
@@ -49,7 +49,7 @@ module _ (f : Header → ℕ) where
       let more = spread_front hs (drop (f h) m) (drop (f h) m') (sum_by f hs) wide.1 (omega arith) rest in
       rw (here, more)
 
-  pub spread_heads : (hs : List Header) (m : List ℕ) → All (λ h. h.len ≤ f h) hs → sum_by f hs ≤ length m → map head_of (spread f hs m) ≡ map header_pair hs
+  pub spread_heads : (hs : List Header) (m : List ℕ) → AllByRecursion (λ h. h.len ≤ f h) hs → sum_by f hs ≤ length m → map head_of (spread f hs m) ≡ map header_pair hs
   spread_heads [] m wide le = refl
   spread_heads (h ∷ hs) m wide le =
       let s = sum_by-cons f h hs in
@@ -65,7 +65,7 @@ module _ (f : Header → ℕ) where
       spread_nth hs (drop (f h) m) i d (omega arith) ∙ ap (λ xs. Some (front (slice_index_or hs i d) xs)) at
 
   -- letters written behind them make one more
-  pub spread_put : (hs : List Header) (m xs : List ℕ) (h : Header) (to : ℕ) → to ≡ sum_by f hs → All (λ h. h.len ≤ f h) hs → to + h.len ≤ length m → h.len ≤ length xs → spread f (hs ++ h ∷ []) (paste m to xs h.len) ≡ spread f hs m ++ front h xs ∷ []
+  pub spread_put : (hs : List Header) (m xs : List ℕ) (h : Header) (to : ℕ) → to ≡ sum_by f hs → AllByRecursion (λ h. h.len ≤ f h) hs → to + h.len ≤ length m → h.len ≤ length xs → spread f (hs ++ h ∷ []) (paste m to xs h.len) ≡ spread f hs m ++ front h xs ∷ []
   spread_put hs m xs h to at wide fits enough =
       let m' = paste m to xs h.len in
       let both : take (to + h.len) m' ≡ take to m ++ take h.len xs = take-paste m to xs h.len (omega arith) enough in

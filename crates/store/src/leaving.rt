@@ -1,6 +1,6 @@
 ghost use Rattle.std.specs.Prelude.{◌≡◌, ◌+◌, ◌≤◌, ltb, [], ◌∷◌, ◌++◌, length, drop, if◌then◌else◌};
 ghost use Rattle.std.proofs.Math.Seq.{paste};
-ghost use Rattle.std.specs.List.{AllByRecursion as All};
+ghost use Rattle.std.specs.List.{AllByRecursion};
 ghost use Rattle.fixed_vec.specs.Items.{items_of};
 ghost use Rattle.store.specs.Entries.{mentions};
 ghost use Rattle.store.specs.Layouts.{pitch, spread};
@@ -90,7 +90,7 @@ pub(crate) fn compact(
     requires few { length headers.now ≤ 64 }
     requires small { room_of layout headers.now ≤ 8192 }
     requires inside { room_of layout headers.now ≤ length memory.old }
-    requires short { All (λ h. h.len ≤ 128) headers.now }
+    requires short { AllByRecursion (λ h. h.len ≤ 128) headers.now }
     ensures headers { items_of result.0 ≡ left_from 0 places.now headers.now }
     ensures end { result.1 ≡ room_of layout (items_of result.0) }
     ensures entries { spread (pitch layout) (items_of result.0) memory.new ≡ left_from 0 places.now (spread (pitch layout) headers.now memory.old) }

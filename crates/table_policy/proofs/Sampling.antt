@@ -1,7 +1,7 @@
 -- What is said of the worked samples is what the meaning of rules gives, by one test.
 use Rattle.std.proofs.Common.{◌≡◌, ℕ, zero, suc, ◌<◌, Bool, true, false, not, ◌&&◌, leb, List, [], ◌∷◌, map, length, get_or, Some, Decides, MatchBool, sym, refl, ◌∙◌, arith}
 use Rattle.std.specs.Option.{option_map}
-use Rattle.std.specs.List.{AllByRecursion as All, slice_get}
+use Rattle.std.specs.List.{AllByRecursion, slice_get}
 use Rattle.std.proofs.lemmas.Bool.{and_parts, leb-true, false≢true}
 use Rattle.policy.proofs.Tested.{tuple_decides}
 use Rattle.policy.proofs.Tuples.{steps_between}
@@ -39,7 +39,7 @@ right s e =
     let some = (steps_between s.places s.tuple (leb-true _ _ p.0) is).0 in
     (is, decided (value s) s.holds (eval_holds s.tuple s.rule some) (λ n. (is, n)) (same (value s) s.holds q.1))
 
-each_right : (ss : List Sample) → all_right_test ss ≡ true → All Right ss
+each_right : (ss : List Sample) → all_right_test ss ≡ true → AllByRecursion Right ss
 each_right [] e = tt
 each_right (s ∷ ss) e = let p = and_parts _ _ e in (right s p.0, each_right ss p.1)
 
@@ -47,7 +47,7 @@ passed : all_right_test samples ≡ true
 unfolding tuple_test until_back counted
 passed = refl
 
-pub samples_right : All Right samples
+pub samples_right : AllByRecursion Right samples
 samples_right = each_right samples passed
 
 -- what is said of the sample at an index, in the list of what is said

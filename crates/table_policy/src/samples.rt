@@ -1,7 +1,7 @@
 //! Worked samples of rules.
 ghost use Rattle.std.specs.Prelude.{◌≡◌};
 ghost use Rattle.std.specs.Option.{option_map};
-ghost use Rattle.std.specs.List.{AllByRecursion as All, slice_get};
+ghost use Rattle.std.specs.List.{AllByRecursion, slice_get};
 ghost use Rattle.table_policy.specs.Samples.{Right, samples};
 
 /// How many samples there are.
@@ -14,7 +14,7 @@ const HOLDS: [bool; SAMPLES] = [true, false, true, false, true, false, true, fal
 /// said of each sample is what the meaning of rules gives.
 pub fn sample_holds(index: usize) -> Option<bool>
     ensures answer { result ≡ option_map (λ s. s.holds) (slice_get samples index) }
-    ensures right { All Right samples }
+    ensures right { AllByRecursion Right samples }
 {
     if index < SAMPLES {
         Some(HOLDS[index])

@@ -1,6 +1,6 @@
 use Rattle.std.proofs.Common.{◌≡◌, ◌+◌, ◌≤◌, [], ◌∷◌, ◌++◌, length, drop, vec_items, vec_len, refl, ap, ◌∙◌, arith}
 use Rattle.std.specs.Vec.{with_items}
-use Rattle.std.specs.List.{AllByRecursion as All}
+use Rattle.std.specs.List.{AllByRecursion}
 use Rattle.fixed_vec.specs.Items.{items_of}
 use Rattle.fixed_vec.proofs.Room.{pushed}
 use Rattle.store.specs.declared.layout.Header.{Header}
@@ -49,7 +49,7 @@ returns c =
     let inside : end + length s ≤ a.room = omega (arith, e.end, ap (room_of layout) left, c.requires.inside) in
     let long : length m₂ ≡ vec_len a.memory = c.as_mut_slice-2.ensures.len in
     let headers : items_of c.append.new.stay ≡ stay ++ new ∷ [] = pushed stay new 64 (omega (arith, ap length left, c.requires.few)) refl c.append.ensures.header in
-    let short : All (λ x. x.len ≤ 128) stay = rw left (all_left ps (λ x. x.len ≤ 128) 0 (headers_in a) h.short) in
+    let short : AllByRecursion (λ x. x.len ≤ 128) stay = rw left (all_left ps (λ x. x.len ≤ 128) 0 (headers_in a) h.short) in
     let spread_left : spread (pitch layout) stay m₂ ≡ left_from 0 ps (entries_in layout a) =
     ap (spread (pitch layout) stay) same ∙ e.entries
     ∙ ap (λ m. left_from 0 ps (spread (pitch layout) c.as_slice.result.now m)) c.as_mut_slice.ensures.value

@@ -6,18 +6,24 @@
 CC ?= cc
 CFLAGS ?= -O2 -Wall -Wextra -Werror
 LIBRARY = target/staticlib/libportbook.a
+PROGRAM = crates/portbook_card/out/portbook_card
 
-.PHONY: run test c compare library
+.PHONY: run test c compare library program
 
-run:
-	rt check portbook_card
-	cd demo && ../target/bin/portbook_card
+run: program
+	cd demo && ../$(PROGRAM)
 
 test:
 	.ci/run
 
+# It runs the program once too, in a folder with no card: what it prints there is not wanted.
+program:
+	cd crates/portbook_card && rt run > /dev/null
+
 library:
-	rt staticlib portbook
+	cd crates/portbook_c && rt lib
+	mkdir -p target/staticlib
+	cp crates/portbook_c/out/libportbook_c.a $(LIBRARY)
 
 c: library
 	mkdir -p target/c

@@ -1,7 +1,7 @@
-"""A second watch, written from the documents and with nothing of the first in it.
+"""A second watch, by the rules of docs/watch.md and with nothing of the first in it.
 
 Rules are judged by their quantifiers over the tree, step by step; the ledger is kept as plain
-lists, and each close tries tuples by itertools. Only what the documents fix is compared: after a
+lists, and each close tries tuples by itertools. Only what those rules fix is compared: after a
 break the count of tried tuples is free between 1 and all of them.
 """
 import itertools

@@ -3,4 +3,4 @@
 
 mod vec;
 
-pub use vec::FixedVec;
+pub use vec::{FixedVec, Full};

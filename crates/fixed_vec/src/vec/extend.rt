@@ -1,20 +1,22 @@
-ghost use Rattle.std.specs.Prelude.{◌≡◌, ◌+◌, ◌++◌, length, if◌then◌else◌, nat_le};
+ghost use Rattle.std.specs.Prelude.{◌≡◌, ◌+◌, ◌≤◌, ◌++◌, ◌↔◌, length, IsOk, OnOk, OnErr};
 ghost use Rattle.fixed_vec.specs.Items.{items_of};
 
-use crate::vec::FixedVec;
+use crate::vec::{FixedVec, Full};
 
 impl<T: Copy, const N: usize> FixedVec<T, N> {
-    /// Appends all of the items; false, with nothing changed, where there is no room for all.
-    pub fn extend(&mut self, items: &[T]) -> bool
-        ensures taken { result ≡ nat_le (length (items_of self.old) + length items.now) N }
-        ensures after { items_of self.new ≡ (if result then items_of self.old ++ items.now else items_of self.old) }
+    /// Appends all of the items, or none where there is no room for all.
+    pub fn extend(&mut self, items: &[T]) -> Result<(), Full>
+        ensures taken { IsOk result ↔ (length (items_of self.old) + length items.now ≤ N) }
+        ensures ok { OnOk result (items_of self.new ≡ items_of self.old ++ items.now) }
+        ensures err { OnErr result (self.new ≡ self.old) }
     {
         if items.len() > N - self.len {
-            return false;
+            return Err(Full);
         }
-        for item in items {
-            self.push(*item);
-        }
-        true
+        let start = self.len;
+        self.len = start + items.len();
+        let all = &mut self.items[..];
+        all[start..start + items.len()].copy_from_slice(items);
+        Ok(())
     }
 }

@@ -1,7 +1,7 @@
-ghost use Rattle.std.specs.Prelude.{◌≡◌, ◌≤◌, [], ◌∷◌, ◌++◌, length, if◌then◌else◌, nat_lt};
+ghost use Rattle.std.specs.Prelude.{◌≡◌, ◌<◌, ◌≤◌, [], ◌∷◌, ◌++◌, ◌↔◌, length, IsOk, OnOk, OnErr};
 ghost use Rattle.fixed_vec.specs.Items.{items_of};
 
-use crate::vec::FixedVec;
+use crate::vec::{FixedVec, Full};
 
 impl<T: Copy, const N: usize> FixedVec<T, N> {
     /// The empty list. The filler stands in the room that holds no item.
@@ -31,16 +31,17 @@ impl<T: Copy, const N: usize> FixedVec<T, N> {
         &all[0..self.len]
     }
 
-    /// Appends an item; false, with nothing changed, where the list is full.
-    pub fn push(&mut self, item: T) -> bool
-        ensures taken { result ≡ nat_lt (length (items_of self.old)) N }
-        ensures after { items_of self.new ≡ (if result then items_of self.old ++ (item ∷ []) else items_of self.old) }
+    /// Appends an item, where the list is not full.
+    pub fn push(&mut self, item: T) -> Result<(), Full>
+        ensures taken { IsOk result ↔ (length (items_of self.old) < N) }
+        ensures ok { OnOk result (items_of self.new ≡ items_of self.old ++ (item ∷ [])) }
+        ensures err { OnErr result (self.new ≡ self.old) }
     {
         if self.len >= N {
-            return false;
+            return Err(Full);
         }
         self.items[self.len] = item;
         self.len += 1;
-        true
+        Ok(())
     }
 }

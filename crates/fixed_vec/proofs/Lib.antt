@@ -1,2 +1,0 @@
-mod Extends
-pub mod Room

@@ -1,13 +1,11 @@
 -- Each token has the line of its place.
-use Rattle.std.proofs.Common.{◌≡◌, ℕ, ◌+◌, Bool, true, false, cond, eqb, ltb, List, [], ◌∷◌, ◌++◌, length, Some, None, Option, sym, refl, ap, ◌∙◌, subst, append_assoc, arith, length-append}
+use Rattle.std.proofs.Common.{◌≡◌, ℕ, ◌+◌, Bool, false, cond, eqb, List, [], ◌∷◌, ◌++◌, length, sym, refl, ap, ◌∙◌, subst, append_assoc, arith, length-append}
 use Rattle.std.proofs.lemmas.List.{take_at}
 use Rattle.std.proofs.lemmas.Bool.Decides.{nat_tests}
 use Rattle.lexer.specs.declared.fault.Position.{Position}
-use Rattle.lexer.specs.declared.fault.TokenFault.TheVariants.{Run}
 use Rattle.lexer.specs.declared.kind.Kind.{Kind}
-use Rattle.lexer.specs.declared.kind.Kind.TheVariants.{Space, Open, Close, LineEnd, Letter, Digit, Other}
 use Rattle.lexer.specs.Lines.{line_ends, OnLine, Lined}
-use Rattle.lexer.specs.Tokens.{Tokens, kind, wordy, span, run, number_value, numbered, starts, spoils, word, begins, put, line_after, after, tokens, start, card_tokens}
+use Rattle.lexer.specs.Tokens.{Tokens, kind, wordy, begins, put, line_after, after, tokens, start, card_tokens}
 
 ends_push : (xs : List ℕ) (b : ℕ) → line_ends (xs ++ (b ∷ [])) ≡ line_ends xs + cond (eqb b 10) 1 0
 ends_push [] b = omega arith
@@ -19,23 +17,7 @@ line_after_byte b n = grind (arith, nat_tests)
 
 -- what a byte starts is at its position
 put_lined : (card : List ℕ) (p : Position) (k : Kind) (on : Bool) (bs : List ℕ) (ts : Tokens) → OnLine card p → Lined card ts → Lined card (put p (begins k on p bs) ts)
-put_lined card p Space on bs ts a l = l
-put_lined card p Open on bs ts a l = (a, l)
-put_lined card p Close on bs ts a l = (a, l)
-put_lined card p LineEnd on bs ts a l = (a, l)
-put_lined card p Letter true bs ts a l = l
-put_lined card p Letter false bs ts a l = go (ltb 16 (span bs))
-  where
-    go : (b : Bool) → Lined card (put p (cond b (spoils (Run p)) (starts (word (run bs)))) ts)
-    go true = a
-    go false = (a, l)
-put_lined card p Digit true bs ts a l = l
-put_lined card p Digit false bs ts a l = go (number_value (run bs))
-  where
-    go : (o : Option ℕ) → Lined card (put p (numbered p o) ts)
-    go None = a
-    go (Some n) = (a, l)
-put_lined card p Other on bs ts a l = a
+put_lined card p k on bs ts a l = grind (arith, a, l)
 
 here : (front bs : List ℕ) (p : Position) → p.place ≡ length front → p.line ≡ 1 + line_ends front → OnLine (front ++ bs) p
 here front bs p e l = l ∙ ap (λ xs. 1 + line_ends xs) (sym (take_at front bs p.place (sym e)))

@@ -1,13 +1,14 @@
 -- What a lexer has left to read, and what its answers say of it.
-use Rattle.std.specs.Prelude.{◌≡◌, ℕ, ◌+◌, ◌-◌, ◌<◌, ◌≤◌, List, length, take, drop, Ok, Err, Result}
+use Rattle.std.specs.Prelude.{◌≡◌, ◌≢◌, ℕ, ◌+◌, ◌-◌, ◌<◌, ◌≤◌, List, length, take, drop, Ok, Err, Result, slice_index}
 use Rattle.std.specs.Borrow.{Bor}
 use Rattle.lexer.specs.declared.fault.Position.{Position}
 use Rattle.lexer.specs.declared.fault.TokenFault.{TokenFault}
+use Rattle.lexer.specs.declared.kind.Kind.TheVariants.{Space}
 use Rattle.lexer.specs.declared.lexer.Lexer.{Lexer}
 use Rattle.lexer.specs.declared.token.Spot.{Spot}
 use Rattle.lexer.specs.declared.token.Token.{Token}
 use Rattle.lexer.specs.declared.token.Token.TheVariants.{Open, Close, LineEnd, Number, Word, End}
-use Rattle.lexer.specs.Tokens.{Tokens, token, over, bad, open_bracket, close_bracket, line_end, number, word}
+use Rattle.lexer.specs.Tokens.{Tokens, kind, token, over, bad, open_bracket, close_bracket, line_end, number, word}
 use Rattle.lexer.specs.Places.{tokens_at}
 
 -- the tokens that are left
@@ -18,6 +19,10 @@ left l = tokens_at l.card.now l.at
 abbrev pub unread : Lexer → ℕ
 unread l = length l.card.now - l.at.place
 
+-- no space is next
+abbrev pub Dark : Lexer → Type 0
+Dark l = l.at.place < length l.card.now → kind (slice_index l.card.now l.at.place) ≢ Space
+
 -- the tokens that begin with one of the code's
 abbrev pub spelled : Position → Token → Tokens → Tokens
 spelled p Open ts = token p open_bracket ts
@@ -27,10 +32,10 @@ spelled p (Number n) ts = token p (number n) ts
 spelled p (Word text offset) ts = token p (word text.now) ts
 spelled p End ts = over p
 
--- a token is read at p, and then the position is where the rest begins
-abbrev pub read_one : List ℕ → Position → Result (Token × Position) TokenFault → Tokens
-read_one card p (Ok t) = spelled p t.0 (tokens_at card t.1)
-read_one card p (Err f) = bad f
+-- the token at p is read, and l has what is left then
+abbrev pub read_one : Position → Result Token TokenFault → Lexer → Tokens
+read_one p (Ok t) l = spelled p t (left l)
+read_one p (Err f) l = bad f
 
 -- the next token is read, and l has what is left then
 abbrev pub taken : Result Spot TokenFault → Lexer → Tokens
@@ -45,12 +50,6 @@ Falls LineEnd m n = n < m
 Falls (Number k) m n = n < m
 Falls (Word text offset) m n = n < m
 Falls End m n = n ≤ m
-
--- a token that is read at p ends in the card
-pub record Ends (card : List ℕ) (p : Position) (t : Token × Position) : Type 0 where
-  pub falls : Falls t.0 (length card - p.place) (length card - t.1.place)
-  pub within : t.1.place ≤ length card
-  pub lined : t.1.line ≤ t.1.place + 1
 
 -- A word of 1 to 16 bytes is that part of the card itself that begins at its offset: the same
 -- memory, and so the same bytes.

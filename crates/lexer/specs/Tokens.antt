@@ -1,5 +1,5 @@
 -- The tokens of a card, by its bytes.
-use Rattle.std.specs.Prelude.{ℕ, suc, ◌+◌, ◌-◌, ◌*◌, Bool, true, false, cond, ◌&&◌, ◌||◌, List, [], ◌∷◌, length, take, Some, None, Option, ◌==◌, nat_le, nat_lt, slice_index}
+use Rattle.std.specs.Prelude.{ℕ, ◌+◌, ◌-◌, ◌*◌, Bool, true, false, cond, ◌&&◌, ◌||◌, List, [], ◌∷◌, length, take_while, Some, None, Option, ◌==◌, nat_le, nat_lt, slice_index}
 use Rattle.lexer.specs.declared.fault.Position.{Position}
 use Rattle.lexer.specs.declared.fault.TokenFault.{TokenFault}
 use Rattle.lexer.specs.declared.fault.TokenFault.TheVariants.{Byte, Run}
@@ -47,14 +47,9 @@ wordy Letter = true
 wordy Digit = true
 wordy Other = false
 
--- how many letters and digits the bytes begin with
-abbrev pub span : List ℕ → ℕ
-span [] = 0
-span (b ∷ bs) = cond (wordy (kind b)) (suc (span bs)) 0
-
 -- the letters and digits that the bytes begin with
 abbrev pub run : List ℕ → List ℕ
-run bs = take (span bs) bs
+run bs = take_while (λ b. wordy (kind b)) bs
 
 -- the number that digits write after others that write n, where each byte is a digit
 abbrev pub digits_after : ℕ → List ℕ → Option ℕ
@@ -86,7 +81,7 @@ begins Open on p bs = starts open_bracket
 begins Close on p bs = starts close_bracket
 begins LineEnd on p bs = starts line_end
 begins Letter true p bs = quiet
-begins Letter false p bs = cond (nat_lt 16 (span bs)) (spoils (Run p)) (starts (word (run bs)))
+begins Letter false p bs = cond (nat_lt 16 (length (run bs))) (spoils (Run p)) (starts (word (run bs)))
 begins Digit true p bs = quiet
 begins Digit false p bs = numbered p (number_value (run bs))
 begins Other on p bs = spoils (Byte p)

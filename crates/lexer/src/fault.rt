@@ -6,14 +6,14 @@ ghost use Rattle.lexer.specs.Faults.{token_report, length_fault};
 const MOST_BYTES: usize = 4096;
 
 /// A place in a card: its byte, counted from 0 over the whole card, and its line, counted from 1.
-#[derive(Clone, Copy)]
+#[derive(Clone, Copy, Debug, PartialEq, Eq)]
 pub struct Position {
     pub place: usize,
     pub line: usize,
 }
 
 /// The part of the reader that finds a fault: the bytes, a form, or a line around it.
-#[derive(Clone, Copy, PartialEq)]
+#[derive(Clone, Copy, Debug, PartialEq, Eq)]
 pub enum Layer {
     Token,
     Form,
@@ -21,8 +21,9 @@ pub enum Layer {
 }
 
 /// What a fault tells: its number, where it is, and its layer.
-#[derive(Clone, Copy)]
+#[derive(Clone, Copy, Debug, PartialEq, Eq)]
 pub struct Report {
+    /// The customer's number, which the card line prints.
     pub number: u8,
     pub at: Position,
     pub layer: Layer,
@@ -38,7 +39,7 @@ impl Report {
 }
 
 /// Why bytes make no token.
-#[derive(Clone, Copy)]
+#[derive(Clone, Copy, Debug, PartialEq, Eq)]
 pub enum TokenFault {
     /// The card has more than 4,096 bytes.
     Long,
@@ -48,12 +49,11 @@ pub enum TokenFault {
     Run(Position),
 }
 
-impl TokenFault {
-    /// The number, the position and the layer of the fault.
-    pub fn report(self) -> Report
-        ensures { result ≡ token_report self }
-    {
-        match self {
+impl From<TokenFault> for Report {
+    ghost from_gives = { λ e r. r ≡ token_report e };
+
+    fn from(fault: TokenFault) -> Report {
+        match fault {
             TokenFault::Long => {
                 let at = Position {
                     place: MOST_BYTES,

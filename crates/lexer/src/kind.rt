@@ -3,7 +3,7 @@ ghost use Rattle.std.specs.Prelude.{◌≡◌};
 ghost use Rattle.lexer.specs.Tokens.{kind, wordy};
 
 /// What a byte is to a card.
-#[derive(Clone, Copy, PartialEq)]
+#[derive(Clone, Copy, Debug, PartialEq, Eq)]
 pub enum Kind {
     Space,
     Open,
@@ -14,24 +14,27 @@ pub enum Kind {
     Other,
 }
 
-/// What a byte is to a card.
-pub(crate) fn kind_of(byte: u8) -> Kind
-    ensures { result ≡ kind byte }
-{
-    match byte as char {
-        ' ' => Kind::Space,
-        '(' => Kind::Open,
-        ')' => Kind::Close,
-        '\n' => Kind::LineEnd,
-        'a'..='z' => Kind::Letter,
-        '0'..='9' => Kind::Digit,
-        _ => Kind::Other,
+impl From<u8> for Kind {
+    ghost from_gives = { λ b r. r ≡ kind b };
+
+    fn from(byte: u8) -> Kind {
+        match byte as char {
+            ' ' => Kind::Space,
+            '(' => Kind::Open,
+            ')' => Kind::Close,
+            '\n' => Kind::LineEnd,
+            'a'..='z' => Kind::Letter,
+            '0'..='9' => Kind::Digit,
+            _ => Kind::Other,
+        }
     }
 }
 
-/// Whether a byte may stand in a word or a number.
-pub(crate) fn is_wordy(byte: u8) -> bool
-    ensures { result ≡ wordy (kind byte) }
-{
-    matches!(kind_of(byte), Kind::Letter | Kind::Digit)
+impl Kind {
+    /// Whether a byte of this kind may stand in a word or a number.
+    pub(crate) fn is_wordy(self) -> bool
+        ensures { result ≡ wordy self }
+    {
+        matches!(self, Kind::Letter | Kind::Digit)
+    }
 }

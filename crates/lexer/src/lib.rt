@@ -1,7 +1,6 @@
 //! The tokens of a card, and the faults of its bytes.
 #![tactic(auto)]
 
-mod bytes;
 mod fault;
 mod kind;
 mod lexer;

@@ -2,7 +2,7 @@
 use crate::fault::Position;
 
 /// A token of a card.
-#[derive(Clone, Copy)]
+#[derive(Clone, Copy, Debug, PartialEq, Eq)]
 pub enum Token<'a> {
     Open,
     Close,
@@ -15,7 +15,7 @@ pub enum Token<'a> {
 }
 
 /// A token, and where its first byte is.
-#[derive(Clone, Copy)]
+#[derive(Clone, Copy, Debug, PartialEq, Eq)]
 pub struct Spot<'a> {
     pub at: Position,
     pub token: Token<'a>,

@@ -1,69 +1,15 @@
-ghost use Rattle.std.specs.Prelude.{◌≡◌, ◌+◌, ◌<◌, ◌≤◌, length, IfOk, OnErr, ◌≢◌, slice_index};
-ghost use Rattle.lexer.specs.Tokens.{kind, card_tokens};
-ghost use Rattle.lexer.specs.Places.{tokens_at};
-ghost use Rattle.lexer.specs.Lexing.{left, unread, read_one, taken, Ends, IsPart, Falls};
+ghost use Rattle.std.specs.Prelude.{◌≡◌, ◌+◌, ◌≤◌, drop, IfOk, OnErr};
+ghost use Rattle.lexer.specs.Tokens.{run, card_tokens};
+ghost use Rattle.lexer.specs.Lexing.{left, unread, Dark, read_one, taken, IsPart, Falls};
 
-use crate::bytes::{run_end, skip_spaces};
 use crate::fault::{Position, TokenFault};
-use crate::kind::{Kind, kind_of};
+use crate::kind::Kind;
 use crate::lexer::Lexer;
 use crate::number::number;
 use crate::token::{Spot, Token};
 
 /// The most bytes of a word.
 const MOST_LETTERS: usize = 16;
-
-/// The token at `at`, where no space is, and the position after it.
-fn token_at<'a>(card: &'a [u8], at: Position) -> Result<(Token<'a>, Position), TokenFault>
-    requires within { at.place ≤ length card.now }
-    requires lined { at.line ≤ at.place + 1 }
-    requires dark { at.place < length card.now → kind (slice_index card.now at.place) ≢ Kind.Space }
-    ensures reads { tokens_at card.now at ≡ read_one card.now at result }
-    ensures ends { IfOk result (λ t. Ends card.now at t) }
-    ensures part { IfOk result (λ t. IsPart card.entry t.0) }
-{
-    let Position { place, line } = at;
-    if place >= card.len() {
-        return Ok((Token::End, at));
-    }
-    let after = Position {
-        place: place + 1,
-        line,
-    };
-    match kind_of(card[place]) {
-        Kind::Open => Ok((Token::Open, after)),
-        Kind::Close => Ok((Token::Close, after)),
-        Kind::LineEnd => Ok((
-            Token::LineEnd,
-            Position {
-                place: place + 1,
-                line: line + 1,
-            },
-        )),
-        Kind::Letter => {
-            let end = run_end(card, place);
-            if end - place > MOST_LETTERS {
-                return Err(TokenFault::Run(at));
-            }
-            let text = &card[place..end];
-            Ok((
-                Token::Word {
-                    text,
-                    offset: place,
-                },
-                Position { place: end, line },
-            ))
-        }
-        Kind::Digit => {
-            let end = run_end(card, place);
-            match number(&card[place..end]) {
-                Some(n) => Ok((Token::Number(n), Position { place: end, line })),
-                None => Err(TokenFault::Run(at)),
-            }
-        }
-        Kind::Space | Kind::Other => Err(TokenFault::Byte(at)),
-    }
-}
 
 impl<'a> Lexer<'a> {
     /// The tokens of a card, from its first byte on.
@@ -85,9 +31,87 @@ impl<'a> Lexer<'a> {
         ensures part { IfOk result (λ s. IsPart self.old.card s.token) }
         ensures card { self.new.card ≡ self.old.card }
     {
-        let at = skip_spaces(self.card, self.at);
-        let (token, after) = token_at(self.card, at)?;
-        self.at = after;
+        self.skip_spaces();
+        let at = self.at;
+        let token = self.token()?;
         Ok(Spot { at, token })
+    }
+
+    /// The bytes that are left.
+    fn rest(&self) -> &'a [u8]
+        ensures bytes { result.now ≡ drop self.now.at.place self.now.card.now }
+        ensures memory { result.ref_ptr ≡ (self.now.card.ref_ptr.0, self.now.card.ref_ptr.1 + self.now.at.place) }
+    {
+        &self.card[self.at.place..]
+    }
+
+    /// Moves to the first place from here on that holds no space.
+    fn skip_spaces(&mut self)
+        ensures same { left self.new ≡ left self.old }
+        ensures falls { unread self.new ≤ unread self.old }
+        ensures card { self.new.card ≡ self.old.card }
+        ensures dark { Dark self.new }
+    {
+        let rest = self.rest();
+        let spaces = rest.iter().position(|b| Kind::from(*b) != Kind::Space);
+        self.at.place += spaces.unwrap_or(rest.len());
+    }
+
+    /// The letters and digits that begin here.
+    fn run(&self) -> &'a [u8]
+        ensures bytes { result.now ≡ run (drop self.now.at.place self.now.card.now) }
+        ensures memory { result.ref_ptr ≡ (self.now.card.ref_ptr.0, self.now.card.ref_ptr.1 + self.now.at.place) }
+    {
+        let rest = self.rest();
+        let end = rest.iter().position(|b| !Kind::from(*b).is_wordy());
+        &rest[..end.unwrap_or(rest.len())]
+    }
+
+    /// The token that begins here, where no space is. The lexer moves past it, unless it is a fault.
+    fn token(&mut self) -> Result<Token<'a>, TokenFault>
+        requires dark { Dark self.old }
+        ensures reads { left self.old ≡ read_one self.old.at result self.new }
+        ensures same { OnErr result (left self.new ≡ left self.old) }
+        ensures falls { IfOk result (λ t. Falls t (unread self.old) (unread self.new)) }
+        ensures part { IfOk result (λ t. IsPart self.old.card t) }
+        ensures card { self.new.card ≡ self.old.card }
+    {
+        let at = self.at;
+        let Some(first) = self.rest().first() else {
+            return Ok(Token::End);
+        };
+        match Kind::from(*first) {
+            Kind::Open => {
+                self.at.place += 1;
+                Ok(Token::Open)
+            }
+            Kind::Close => {
+                self.at.place += 1;
+                Ok(Token::Close)
+            }
+            Kind::LineEnd => {
+                self.at.place += 1;
+                self.at.line += 1;
+                Ok(Token::LineEnd)
+            }
+            Kind::Letter => {
+                let text = self.run();
+                if text.len() > MOST_LETTERS {
+                    return Err(TokenFault::Run(at));
+                }
+                self.at.place += text.len();
+                Ok(Token::Word {
+                    text,
+                    offset: at.place,
+                })
+            }
+            Kind::Digit => {
+                let digits = self.run();
+                let value = number(digits).ok_or(TokenFault::Run(at))?;
+                self.at.place += digits.len();
+                Ok(Token::Number(value))
+            }
+            Kind::Space | Kind::Other => Err(TokenFault::Byte(at)),
+        }
     }
 }

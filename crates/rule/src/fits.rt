@@ -1,7 +1,7 @@
 //! Whether nodes make a table.
-ghost use Rattle.std.specs.Prelude.{◌≡◌, Decides};
-ghost use Rattle.rule.specs.Nodes.{TableFits};
-ghost use Rattle.rule.specs.Testing.{node_test};
+ghost use Rattle.std.specs.Prelude.{◌≡◌, ℕ, ◌<◌, length, Decides, slice_index_or};
+ghost use Rattle.rule.specs.Nodes.{NodeFits, TableFits};
+ghost use Rattle.rule.specs.declared.node.Node.TheVariants.{True};
 
 use crate::node::Node;
 
@@ -11,44 +11,21 @@ const MOST_NODES: usize = 64;
 /// The most places of a table.
 const MOST_PLACES: usize = 4;
 
-/// How many signals a letter has.
-const SIGNALS: u8 = 32;
-
-/// Whether a node may stand at an index of a table of so many places.
-fn node_fits(places: usize, index: usize, node: Node) -> bool
-    ensures { result ≡ node_test places index node }
+/// Whether each node may stand at its index.
+fn all_fit(places: usize, nodes: &[Node]) -> bool
+    ensures { Decides result ((i : ℕ) → i < length nodes.now → NodeFits places i (slice_index_or nodes.now i True)) }
 {
-    match node {
-        Node::True => true,
-        Node::At { place, signal } => ((place as usize) < places) & (signal < SIGNALS),
-        Node::Near {
-            first,
-            second,
-            limit: _,
-            mask: _,
-        } => ((first as usize) < places) & ((second as usize) < places),
-        Node::Not(f) => (f as usize) < index,
-        Node::And(f, g) => ((f as usize) < index) & ((g as usize) < index),
-        Node::Or(f, g) => ((f as usize) < index) & ((g as usize) < index),
-        Node::Next(f) => (f as usize) < index,
-        Node::Until(f, g) => ((f as usize) < index) & ((g as usize) < index),
-    }
+    nodes
+        .iter()
+        .enumerate()
+        .all(|(index, node)| node.fits(places, index))
 }
 
 /// Whether nodes make a table of so many places.
 pub(crate) fn table_fits(places: usize, nodes: &[Node]) -> bool
     ensures { Decides result (TableFits places nodes.now) }
 {
-    if nodes.len() < 1 || nodes.len() > MOST_NODES {
-        return false;
-    }
-    if places < 1 || places > MOST_PLACES {
-        return false;
-    }
-    for (index, node) in nodes.iter().enumerate() {
-        if !node_fits(places, index, *node) {
-            return false;
-        }
-    }
-    true
+    (1..=MOST_NODES).contains(&nodes.len())
+        && (1..=MOST_PLACES).contains(&places)
+        && all_fit(places, nodes)
 }

@@ -1,6 +1,12 @@
+ghost use Rattle.std.specs.Prelude.{◌≡◌, Decides};
+ghost use Rattle.rule.specs.Nodes.{NodeFits};
+
+/// How many signals a letter has.
+const SIGNALS: u8 = 32;
+
 /// A node of a formula table. A node names the nodes it is made of by their indices, which are
 /// below its own. A place is counted from 0.
-#[derive(Clone, Copy)]
+#[derive(Clone, Copy, Debug, PartialEq, Eq)]
 pub enum Node {
     /// It holds at every step.
     True,
@@ -26,4 +32,22 @@ pub enum Node {
     Next(u8),
     /// The second node holds at this step or a later one, and the first at each step before that.
     Until(u8, u8),
+}
+
+impl Node {
+    /// Whether the node may stand at an index of a table of so many places.
+    pub(crate) fn fits(self, places: usize, index: usize) -> bool
+        ensures { Decides result (NodeFits places index self) }
+    {
+        match self {
+            Node::True => true,
+            Node::At { place, signal } => (place as usize) < places && signal < SIGNALS,
+            Node::Near { first, second, .. } => (first as usize) < places
+                && (second as usize) < places,
+            Node::Not(f) | Node::Next(f) => (f as usize) < index,
+            Node::And(f, g) | Node::Or(f, g) | Node::Until(f, g) => {
+                (f as usize) < index && (g as usize) < index
+            }
+        }
+    }
 }

@@ -9,6 +9,7 @@ use fixed_vec::FixedVec;
 
 impl Table {
     /// The table of these nodes over so many places, or none where they make no table.
+    #[tactic(auto, using(crate::proofs::Tested::table_decides))]
     pub fn new(places: usize, nodes: &[Node]) -> Option<Table>
         ensures { MatchOption result (TableFits places nodes.now → ⊥) (λ t. HoldsNodes places nodes.now t) }
     {
@@ -16,7 +17,7 @@ impl Table {
             return None;
         }
         let mut kept = FixedVec::new(Node::True);
-        kept.extend(nodes);
+        kept.extend(nodes).unwrap();
         Some(Table {
             places,
             nodes: kept,
@@ -31,8 +32,10 @@ impl Table {
     }
 
     /// The nodes, in their order.
+    #[tactic(auto, using(crate::proofs::Tested::table_decides))]
     pub fn nodes(&self) -> &[Node]
-        ensures { result.now ≡ nodes_of self.now }
+        ensures value { result.now ≡ nodes_of self.now }
+        ensures fits { TableFits self.now.places result.now }
     {
         self.nodes.as_slice()
     }

@@ -1,1 +1,2 @@
 mod Finding
+mod Spelling

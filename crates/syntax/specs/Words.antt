@@ -1,5 +1,5 @@
 -- The words that begin forms and lines.
-use Rattle.std.specs.Prelude.{ℕ, Bool, true, false, cond, ◌&&◌, List, [], ◌∷◌, Some, None, codes, Option, ◌==◌}
+use Rattle.std.specs.Prelude.{ℕ, Bool, cond, List, Some, None, codes, Option, bytes_eq}
 use Rattle.syntax.specs.declared.head.Binary.TheVariants.{And, Or, Until, Iff, Weak}
 use Rattle.syntax.specs.declared.head.Head.{Head}
 use Rattle.syntax.specs.declared.head.Head.TheVariants.{True, At, Near, One, Two}
@@ -9,10 +9,7 @@ use Rattle.syntax.specs.declared.head.Unary.TheVariants.{Not, Next, Always}
 
 -- whether two words have the same bytes
 abbrev pub same : List ℕ → List ℕ → Bool
-same [] [] = true
-same [] (y ∷ ys) = false
-same (x ∷ xs) [] = false
-same (x ∷ xs) (y ∷ ys) = x == y && same xs ys
+same = bytes_eq
 
 -- the form that a word begins
 abbrev pub head_of : List ℕ → Option Head

@@ -62,12 +62,12 @@ impl From<FormFault> for LineFault {
     }
 }
 
-impl FormFault {
-    /// The number, the position and the layer of the fault.
-    pub fn report(self) -> Report
-        ensures { result ≡ form_report self }
-    {
-        match self {
+/// The number, the position and the layer of the fault.
+impl From<FormFault> for Report {
+    ghost from_gives = { λ e r. r ≡ form_report e };
+
+    fn from(fault: FormFault) -> Report {
+        match fault {
             FormFault::Token(fault) => fault.report(),
             FormFault::Stray(at) => Report::new(3, at, Layer::Form),
             FormFault::Deep(at) => Report::new(4, at, Layer::Form),
@@ -78,14 +78,14 @@ impl FormFault {
     }
 }
 
-impl LineFault {
-    /// The number, the position and the layer of the fault.
-    pub fn report(self) -> Report
-        ensures { result ≡ line_report self }
-    {
-        match self {
+/// The number, the position and the layer of the fault.
+impl From<LineFault> for Report {
+    ghost from_gives = { λ e r. r ≡ line_report e };
+
+    fn from(fault: LineFault) -> Report {
+        match fault {
             LineFault::Token(fault) => fault.report(),
-            LineFault::Form(fault) => fault.report(),
+            LineFault::Form(fault) => Report::from(fault),
             LineFault::Stray(at) => Report::new(3, at, Layer::Line),
             LineFault::Name(at) => Report::new(5, at, Layer::Line),
             LineFault::Range(at) => Report::new(6, at, Layer::Line),

@@ -1,9 +1,9 @@
 //! The words that begin forms and lines.
-ghost use Rattle.std.specs.Prelude.{◌≡◌, codes};
+ghost use Rattle.std.specs.Prelude.{◌≡◌, codes, ok_or};
 ghost use Rattle.syntax.specs.Words.{same, head_of, topic_of};
 
 /// The forms over one form.
-#[derive(Clone, Copy)]
+#[derive(Clone, Copy, Debug, PartialEq, Eq)]
 pub enum Unary {
     Not,
     Next,
@@ -11,7 +11,7 @@ pub enum Unary {
 }
 
 /// The forms over two forms.
-#[derive(Clone, Copy)]
+#[derive(Clone, Copy, Debug, PartialEq, Eq)]
 pub enum Binary {
     And,
     Or,
@@ -21,7 +21,7 @@ pub enum Binary {
 }
 
 /// The form that a word begins.
-#[derive(Clone, Copy)]
+#[derive(Clone, Copy, Debug, PartialEq, Eq)]
 pub enum Head {
     True,
     At,
@@ -31,60 +31,51 @@ pub enum Head {
 }
 
 /// What a line after the first is about.
-#[derive(Clone, Copy)]
+#[derive(Clone, Copy, Debug, PartialEq, Eq)]
 pub enum Topic {
     Signal,
     Rule,
 }
 
-/// Whether two words have the same bytes.
-pub(crate) fn same_word(a: &[u8], b: &[u8]) -> bool
-    ensures { result ≡ same a.now b.now }
-{
-    a == b
-}
+/// The word begins nothing.
+#[derive(Clone, Copy, Debug, PartialEq, Eq)]
+pub struct UnknownWord;
 
-/// The form that a word begins.
-pub fn head_of(word: &[u8]) -> Option<Head>
-    ensures { result ≡ head_of word.now }
-{
-    if same_word(word, b"true") {
-        Some(Head::True)
-    } else if same_word(word, b"at") {
-        Some(Head::At)
-    } else if same_word(word, b"near") {
-        Some(Head::Near)
-    } else if same_word(word, b"not") {
-        Some(Head::One(Unary::Not))
-    } else if same_word(word, b"next") {
-        Some(Head::One(Unary::Next))
-    } else if same_word(word, b"always") {
-        Some(Head::One(Unary::Always))
-    } else if same_word(word, b"and") {
-        Some(Head::Two(Binary::And))
-    } else if same_word(word, b"or") {
-        Some(Head::Two(Binary::Or))
-    } else if same_word(word, b"until") {
-        Some(Head::Two(Binary::Until))
-    } else if same_word(word, b"iff") {
-        Some(Head::Two(Binary::Iff))
-    } else if same_word(word, b"weak") {
-        Some(Head::Two(Binary::Weak))
-    } else {
-        None
+impl<'a> TryFrom<&'a [u8]> for Head {
+    type Error = UnknownWord;
+
+    ghost try_from_gives = { λ word r. r ≡ ok_or (head_of word.now) (record {}) };
+
+    #[tactic(auto, using(crate::proofs::Spelling::begins_alike))]
+    fn try_from(word: &'a [u8]) -> Result<Self, UnknownWord> {
+        match word {
+            b"true" => Ok(Head::True),
+            b"at" => Ok(Head::At),
+            b"near" => Ok(Head::Near),
+            b"not" => Ok(Head::One(Unary::Not)),
+            b"next" => Ok(Head::One(Unary::Next)),
+            b"always" => Ok(Head::One(Unary::Always)),
+            b"and" => Ok(Head::Two(Binary::And)),
+            b"or" => Ok(Head::Two(Binary::Or)),
+            b"until" => Ok(Head::Two(Binary::Until)),
+            b"iff" => Ok(Head::Two(Binary::Iff)),
+            b"weak" => Ok(Head::Two(Binary::Weak)),
+            _ => Err(UnknownWord),
+        }
     }
 }
 
-/// What a line after the first is about, by its word.
-pub fn topic_of(word: &[u8]) -> Option<Topic>
-    ensures { result ≡ topic_of word.now }
-{
-    if same_word(word, b"signal") {
-        Some(Topic::Signal)
-    } else if same_word(word, b"rule") {
-        Some(Topic::Rule)
-    } else {
-        None
+impl<'a> TryFrom<&'a [u8]> for Topic {
+    type Error = UnknownWord;
+
+    ghost try_from_gives = { λ word r. r ≡ ok_or (topic_of word.now) (record {}) };
+
+    fn try_from(word: &'a [u8]) -> Result<Self, UnknownWord> {
+        match word {
+            b"signal" => Ok(Topic::Signal),
+            b"rule" => Ok(Topic::Rule),
+            _ => Err(UnknownWord),
+        }
     }
 }
 
@@ -92,5 +83,5 @@ pub fn topic_of(word: &[u8]) -> Option<Topic>
 pub fn is_sessions(word: &[u8]) -> bool
     ensures { result ≡ same word.now (codes "sessions") }
 {
-    same_word(word, b"sessions")
+    word == b"sessions".as_slice()
 }

@@ -6,5 +6,5 @@ mod head;
 mod names;
 
 pub use fault::{FormFault, LineFault};
-pub use head::{Binary, Head, Topic, Unary, head_of, is_sessions, topic_of};
-pub use names::Names;
+pub use head::{Binary, Head, Topic, Unary, UnknownWord, is_sessions};
+pub use names::{NameRefusal, Names};

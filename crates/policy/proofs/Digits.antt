@@ -1,10 +1,12 @@
 -- Numbers as sets of signals.
-use Rattle.std.proofs.Common.{◌≡◌, ℕ, zero, suc, ◌+◌, ◌/◌, ◌%◌, ◌^◌, ◌<◌, Bool, cond, ◌&&◌, eqb, ◌⊎◌, Decides, sym, refl, ap, ◌∙◌, subst, ap₂, inl, inr, mod-lt, zero-lt-suc, pow-suc, div-one, mul-div_cancel, arith, pow_pos, shr-shr}
+use Rattle.std.proofs.Common.{◌≡◌, ℕ, zero, suc, ◌+◌, ◌/◌, ◌%◌, ◌^◌, ◌<◌, ◌≤◌, Bool, ⊎_elim, pow_mono, lt_of_lt_of_le, cond, ◌&&◌, eqb, ◌⊎◌, Decides, sym, refl, ap, ◌∙◌, subst, ap₂, inl, inr, mod-lt, zero-lt-suc, pow-suc, div-one, mul-div_cancel, arith, pow_pos, shr-shr}
 use lib.Arith.{bin_ind}
 use lib.Bits.{bit_and, bit_or, bit_xor, and_shr, and_mod, or_shr, or_mod, xor_shr, xor_mod}
 use lib.Count.{ones, ones_cat}
 use lib.Pow.{mod-pow-add}
 use native.Mathlib.Nat.{div_self, zero-div, mod-one, mul-mod_left}
+use Rattle.std.proofs.Math.Nat.{div-eq_of_lt}
+use Rattle.std.proofs.lemmas.Bool.{cases_lt}
 use Rattle.std.proofs.lemmas.Bool.Decides.{Decides-eqb, Decides-like}
 use Rattle.policy.specs.Sessions.{On, on, counted, apart}
 
@@ -161,3 +163,14 @@ covers_decides m a b =
     (λ h. same_digits _ _ (λ x. digit_and (bit_and m a) b x ∙ ap (λ (y : ℕ). bit_and y (digit b x)) (digit_and m a x)
     ∙ within_digit (digit_is m x) (digit_is a x) (digit_is b x) (h x) ∙ sym (digit_and m a x)))
     (Decides-eqb (bit_and (bit_and m a) b) (bit_and m a))
+
+-- ---- the bits of a number below a power of 2
+
+pub on_below : (a n : ℕ) → a < 2 ^ n → (s : ℕ) → On a s → s < n
+on_below a n h s o = ⊎_elim (λ l. l) (λ l. absurd (past l)) (cases_lt s n)
+  where
+    past : n ≤ s → ⊥
+    past l =
+        let z : a / 2 ^ s ≡ 0 = div-eq_of_lt (lt_of_lt_of_le h (pow_mono l)) in
+        let one : ◌≡◌ {A = ℕ} 0 1 = sym (ap (λ (x : ℕ). x % 2) z) ∙ o in
+        omega arith

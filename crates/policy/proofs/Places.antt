@@ -1,8 +1,11 @@
 -- What the code reads of a tuple.
-use Rattle.std.proofs.Common.{◌≡◌, ℕ, zero, suc, ◌+◌, ◌<◌, ◌≤◌, min, List, [], ◌∷◌, length, get_or, take, drop, set, sym, refl, ap, ◌∙◌, subst, ⊎_elim, arith, Bor, below_more}
-use Rattle.std.proofs.lemmas.List.{at_drop_more, length-map, length-set, map-set, get_or-set_same, get_or-set_other, get_or_past, get_or-take}
+use Rattle.std.proofs.Common.{◌≡◌, ℕ, zero, suc, ◌<◌, ◌≤◌, min, List, [], ◌∷◌, length, get_or, take, sym, refl, ap, ◌∙◌, Option, None, Some, MatchOption, ⊎_elim, arith, Bor}
+use Rattle.std.proofs.lemmas.List.{map-id, get_or_past, get_or-take}
 use Rattle.std.proofs.lemmas.Bool.{cases_lt}
-use Rattle.policy.specs.Sessions.{Letter, Session, Tuple, letter, letters, sessions, shortest}
+use Rattle.std.proofs.lemmas.Iterator.{YieldsList, items_from_drains}
+use Rattle.std.specs.Iterator.{Drains}
+use Rattle.std.specs.List.{FoldsTo}
+use Rattle.policy.specs.Sessions.{Session, Tuple, letter, letters, sessions, shortest}
 
 abbrev pub nowhere : Bor Session
 nowhere = record { ref_ptr = (0, 0); now = [] }
@@ -11,14 +14,6 @@ pub sessions_at : (xs : List (Bor Session)) (v : ℕ) → (get_or xs v nowhere).
 sessions_at [] v = refl
 sessions_at (x ∷ xs) zero = refl
 sessions_at (x ∷ xs) (suc v) = sessions_at xs v
-
--- the session at a place, read from a slice
-module _ (xs : List (Bor Session)) (P : Session → Type 0) where
-  pub at_place : (v : ℕ) → P (get_or xs v nowhere).now → P (get_or (sessions xs) v [])
-  at_place v = subst P (sessions_at xs v)
-
-  pub from_place : (v : ℕ) → P (get_or (sessions xs) v []) → P (get_or xs v nowhere).now
-  from_place v = subst P (sym (sessions_at xs v))
 
 -- ---- the shortest session
 
@@ -31,52 +26,32 @@ least_min : (n : ℕ) (s : Session) (xs : Tuple) → least n (s ∷ xs) ≡ min 
 least_min n s [] = refl
 least_min n s (t ∷ xs) = least_min (min n (length s)) t xs ∙ omega arith
 
-pub least_first : (xs : Tuple) → 0 < length xs → least (length (get_or xs 0 [])) xs ≡ shortest xs
-least_first [] h = absurd (let z : ⊥ = omega arith in z)
-least_first (s ∷ []) h = omega arith
-least_first (s ∷ (t ∷ xs)) h = least_min (min (length s) (length s)) t xs ∙ omega arith
+least_first : (s : Session) (xs : Tuple) → least (length s) xs ≡ shortest (s ∷ xs)
+least_first s [] = refl
+least_first s (t ∷ xs) = least_min (length s) t xs
 
-pub shortest_none : (xs : Tuple) → length xs ≤ 0 → shortest xs ≡ 0
-shortest_none [] h = refl
-shortest_none (s ∷ xs) h = absurd (let z : ⊥ = omega arith in z)
-
--- one session more: the one that ends first is as long as the shorter of the two
-pub least_more : (xs : List (Bor Session)) (v n m : ℕ) → v < length xs → m ≡ min n (length (get_or xs v nowhere).now) → least n (drop v (sessions xs)) ≡ least m (drop (v + 1) (sessions xs))
-least_more xs v n m h e =
-    at_drop_more (least n) (sessions xs) v [] (omega (arith, length-map xs (λ x. x.now)))
-    ∙ ap (λ k. least k (drop (v + 1) (sessions xs))) (ap (λ s. min n (length s)) (sym (sessions_at xs v)) ∙ sym e)
-
--- ---- the joined word
-
--- the places below n hold the first steps of their sessions, and the others nothing
-abbrev pub Cut : List (Bor Session) → List (Bor Session) → ℕ → ℕ → Type 0
-Cut word xs m n =
-    (length word ≡ 4)
-    × ((v : ℕ) → v < n → get_or (sessions word) v [] ≡ take m (get_or (sessions xs) v []))
-    × ((v : ℕ) → n ≤ v → get_or (sessions word) v [] ≡ [])
-
-pub cut_more : (word xs : List (Bor Session)) (m n : ℕ) (r : Bor Session) → n < 4 → Cut word xs m n → r.now ≡ take m (get_or xs n nowhere).now → Cut (set word n r) xs m (n + 1)
-cut_more word xs m n r h (long, low, high) e =
-    let at_set : (v : ℕ) → get_or (sessions (set word n r)) v [] ≡ get_or (set (sessions word) n r.now) v [] = λ v. ap (λ l. get_or l v []) (map-set (λ x. x.now) word n r) in
-    let within : n < length (sessions word) = omega (arith, length-map word (λ x. x.now)) in (
-      length-set word n r ∙ long,
-      below_more _ _ (λ v l. at_set v ∙ get_or-set_other (sessions word) n v r.now [] (omega arith) ∙ low v l)
-          (at_set n ∙ get_or-set_same (sessions word) n r.now [] within ∙ e ∙ ap (take m) (sessions_at xs n)),
-      λ v l. at_set v ∙ get_or-set_other (sessions word) n v r.now [] (omega arith) ∙ high v (omega arith),
-    )
-
-pub cut_all : (word xs : List (Bor Session)) (m n : ℕ) → Cut word xs m n → min (length xs) 4 ≤ n → (v : ℕ) → v < 4 → get_or (sessions word) v [] ≡ take m (get_or (sessions xs) v [])
-cut_all word xs m n (long, low, high) h v l =
+-- the one of two that ends first is as long as the shorter
+pub shorter : (a b r : Bor Session) → (length a.now ≤ length b.now → r ≡ a) → (length b.now < length a.now → r ≡ b) → length r.now ≡ min (length a.now) (length b.now)
+shorter a b r first second =
     ⊎_elim
-    (λ (a : v < n). low v a)
-    (λ (b : n ≤ v).
-    high v b
-    ∙ sym (ap (take m) (get_or_past (sessions xs) v [] (omega (arith, length-map xs (λ x. x.now)))) ∙ take_none m))
-    (cases_lt v n)
-  where
-    take_none : (m : ℕ) → take {A = Letter} m [] ≡ []
-    take_none zero = refl
-    take_none (suc m) = refl
+    (λ l. let e = ap (λ (s : Bor Session). length s.now) (second l) in omega arith)
+    (λ g. let e = ap (λ (s : Bor Session). length s.now) (first g) in omega arith)
+    (cases_lt (length b.now) (length a.now))
+
+-- the turns of `reduce`, each of which keeps the one that ends first
+module _ {F : Type 0} (Turn : F × Bor Session → Bor Session → F × Bor Session → Type 0)
+    (first : (p q : F × Bor Session) (x : Bor Session) → Turn p x q → length q.1.now ≡ min (length p.1.now) (length x.now)) where
+  least_by_turns : (xs : List (Bor Session)) (p q : F × Bor Session) → FoldsTo Turn p xs q → length q.1.now ≡ least (length p.1.now) (sessions xs)
+  least_by_turns [] p q e = ap (λ (r : F × Bor Session). length r.1.now) (sym e)
+  least_by_turns (x ∷ xs) p q h = least_by_turns xs h.0 q h.2 ∙ ap (λ n. least n (sessions xs)) (first p h.0 x h.1)
+
+  pub shortest_by_turns : (xs : List (Bor Session)) {S : Type 0} {steps : S → Option (Bor Session) → S → Type 0} (s : S) (f : F) (r : Option (Bor Session))
+      → MatchOption r (Drains steps s []) (λ y. (x : Bor Session) × (ys : List (Bor Session)) × (g : F) × Drains steps s (x ∷ ys) × FoldsTo Turn (f, x) ys (g, y))
+      → YieldsList steps (λ x. x) s xs → MatchOption r (shortest (sessions xs) ≡ 0) (λ y. shortest (sessions xs) ≡ length y.now)
+  shortest_by_turns xs s f None d e = ap (λ ys. shortest (sessions ys)) (sym (items_from_drains [] (d.1.0, d.1.1, λ _. (d.0, d.1.2)) e))
+  shortest_by_turns xs s f (Some y) h e =
+      ap (λ ys. shortest (sessions ys)) (sym (items_from_drains (h.0 ∷ h.1) (h.3.1.0, h.3.1.1, λ _. (h.3.0, h.3.1.2)) e) ∙ map-id (h.0 ∷ h.1))
+      ∙ sym (least_first h.0.now (sessions h.1)) ∙ sym (least_by_turns h.1 (f, h.0) (h.2, y) h.4)
 
 -- ---- the letters of a step
 

@@ -1,19 +1,9 @@
 -- The laws of two policies at once.
-use Rattle.std.specs.Prelude.{◌≡◌, ℕ, Bool, true, false, ◌&&◌, ◌||◌, ◌⊎◌, List, [], length, ◌==◌, ◌≢◌, slice_index_or, slice_set}
-use Rattle.std.proofs.Common.{sym, ap, ap₂, ◌∙◌, ⊎_elim, arith, length-set}
-use Rattle.std.proofs.lemmas.Bool.{eqb-true, eq-eqb, ne_eqb, and_parts, and_from, or_cases, or_left, or_right}
+use Rattle.std.specs.Prelude.{◌≡◌, ℕ, true, ◌||◌, ◌⊎◌, List, [], length, ◌==◌, slice_index_or, slice_set}
+use Rattle.std.proofs.Common.{◌∙◌, ⊎_elim, arith, length-set}
+use Rattle.std.proofs.lemmas.Bool.{eqb-true, eq-eqb, and_parts, and_from, or_cases, or_left, or_right}
 use Rattle.policy.specs.Policy.{Meaning, Lawful}
 use Rattle.policy.specs.Pairing.{both}
-
--- ---- what the code answers
-
-pub by_second : (n k : ℕ) (x y r : Bool) → n ≡ k → false ≡ x → r ≡ y → r ≡ (n == k && (x || y))
-by_second n k x y r e f h = h ∙ sym (ap₂ ◌&&◌ (eq-eqb n k e) (ap (λ (z : Bool). z || y) (sym f)))
-
-pub not_as_many : (n k n' k' : ℕ) (z : Bool) → n ≡ n' → k ≡ k' → (n ≢ k) → (n == k) ≡ (n' == k' && z)
-not_as_many n k n' k' z p q h = ne_eqb n k h ∙ sym (ap (λ (x : Bool). x && z) (ne_eqb n' k' (λ e. h (p ∙ e ∙ sym q))))
-
--- ---- the laws
 
 module _ (a b : Meaning) (la : Lawful a) (lb : Lawful b) where
   of_pair : (xs : List (List ℕ)) → (both a b).breaks xs ≡ true → (length xs ≡ a.arity) × ((a.breaks xs ≡ true) ⊎ (b.breaks xs ≡ true))

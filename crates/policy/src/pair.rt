@@ -21,7 +21,7 @@ pub struct UnlikePlaces<A, B> {
 }
 
 impl<A, B> UnlikePlaces<A, B> {
-    /// The number of the refusal.
+    /// The number of the refusal. It is a number since the customer's list gives it.
     pub fn number(&self) -> u8
         ensures { result ≡ unlike_number }
     {

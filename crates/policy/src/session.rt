@@ -9,7 +9,7 @@ const MOST_LETTERS: usize = 128;
 pub fn is_session(letters: &[u32]) -> bool
     ensures { Decides result (IsSession letters.now) }
 {
-    1 <= letters.len() && letters.len() <= MOST_LETTERS
+    (1..=MOST_LETTERS).contains(&letters.len())
 }
 
 /// The one of two recordings that ends first, that recording itself; the first of the two where

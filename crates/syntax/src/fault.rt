@@ -7,7 +7,7 @@ ghost use Rattle.syntax.specs.declared.fault.LineFault.TheVariants as line;
 use lexer::{Layer, Position, Report, TokenFault};
 
 /// Why no form could be read.
-#[derive(Clone, Copy)]
+#[derive(Clone, Copy, Debug, PartialEq, Eq)]
 pub enum FormFault {
     /// The bytes make no token.
     Token(TokenFault),
@@ -24,7 +24,7 @@ pub enum FormFault {
 }
 
 /// Why a card is refused.
-#[derive(Clone, Copy)]
+#[derive(Clone, Copy, Debug, PartialEq, Eq)]
 pub enum LineFault {
     /// The bytes make no token.
     Token(TokenFault),
@@ -68,7 +68,7 @@ impl From<FormFault> for Report {
 
     fn from(fault: FormFault) -> Report {
         match fault {
-            FormFault::Token(fault) => fault.report(),
+            FormFault::Token(fault) => Report::from(fault),
             FormFault::Stray(at) => Report::new(3, at, Layer::Form),
             FormFault::Deep(at) => Report::new(4, at, Layer::Form),
             FormFault::Name(at) => Report::new(5, at, Layer::Form),
@@ -84,7 +84,7 @@ impl From<LineFault> for Report {
 
     fn from(fault: LineFault) -> Report {
         match fault {
-            LineFault::Token(fault) => fault.report(),
+            LineFault::Token(fault) => Report::from(fault),
             LineFault::Form(fault) => Report::from(fault),
             LineFault::Stray(at) => Report::new(3, at, Layer::Line),
             LineFault::Name(at) => Report::new(5, at, Layer::Line),

@@ -1,4 +1,3 @@
-mod Adding
 mod Compile
 mod Complete
 mod Examples

@@ -5,35 +5,19 @@ use Rattle.lexer.specs.declared.fault.Layer.TheVariants.{Line}
 use Rattle.lexer.specs.Tokens.{Lexeme, Tokens, open_bracket, close_bracket, line_end, number, word}
 use Rattle.syntax.specs.declared.head.Topic.TheVariants as topic
 use Rattle.card.specs.Grammar.{Formula, spell, size, depth, Fits, Written, declarations, spelled, Within, Are}
-use Rattle.card.specs.Reading.{Due, Known, on, no, line, words, sessions_word, topic, new_name, numbers, sessions, closes, ends, opens, first_line, inside, after_topic, lined, accepted, nothing, read_tokens}
+use Rattle.card.specs.Reading.{Due, Known, on, no, line, words, sessions_word, topic, new_name, numbers, sessions, closes, ends, opens, first_line, later_line, after_topic, lined, accepted, nothing, read_tokens}
 use Rattle.syntax.specs.Words.{same}
 use Rattle.syntax.specs.Signals.{signal_of, is_new}
 use Rattle.card.proofs.Complete.{extend, last_node, with_names, known_of, accepted_if}
 use Rattle.card.proofs.Naming.{impossible, same_is, fresh_undeclared, Fresh, fresh_distinct}
 use Rattle.card.proofs.Plain.{accepts, went, unplaced}
-use Rattle.card.proofs.Sound.{sound, form_goes}
+use Rattle.card.proofs.Sound.{WordRead, i_word, NumberRead, i_number, i_open, sound, form_goes}
 
 -- a token is read, and it is this one
 record Went (t : Lexeme) (us : List Lexeme) (ds : List Due) (vs : List ℕ) (room : ℕ) (x o : Known) : Type 0 where
   rest : List Lexeme
   is : us ≡ t ∷ rest
   goes : accepts rest ds vs room x ≡ Some o
-
-i_first : (us : List Lexeme) (ds : List Due) (vs : List ℕ) (x o : Known) → accepts us (opens first_line ∷ ds) vs 12 x ≡ Some o → Went open_bracket us (inside first_line ++ ds) vs 11 x o
-i_first [] ds vs x o e = impossible o e
-i_first (open_bracket ∷ us) ds vs x o e = record { rest = us; is = refl; goes = e }
-i_first (close_bracket ∷ us) ds vs x o e = impossible o e
-i_first (line_end ∷ us) ds vs x o e = impossible o e
-i_first (number n ∷ us) ds vs x o e = impossible o e
-i_first (word w ∷ us) ds vs x o e = impossible o e
-
-i_later : (us : List Lexeme) (ds : List Due) (vs : List ℕ) (x o : Known) → accepts us (line ∷ ds) vs 12 x ≡ Some o → Went open_bracket us (words topic ∷ ds) vs 11 x o
-i_later [] ds vs x o e = impossible o e
-i_later (open_bracket ∷ us) ds vs x o e = record { rest = us; is = refl; goes = e }
-i_later (close_bracket ∷ us) ds vs x o e = impossible o e
-i_later (line_end ∷ us) ds vs x o e = impossible o e
-i_later (number n ∷ us) ds vs x o e = impossible o e
-i_later (word w ∷ us) ds vs x o e = impossible o e
 
 i_closes : (us : List Lexeme) (ds : List Due) (vs : List ℕ) (x o : Known) → accepts us (closes ∷ ds) vs 11 x ≡ Some o → Went close_bracket us ds vs 12 x o
 i_closes [] ds vs x o e = impossible o e
@@ -52,16 +36,11 @@ i_ends (number n ∷ us) ds vs x o e = impossible o e
 i_ends (word w ∷ us) ds vs x o e = impossible o e
 
 i_sessions_word : (us : List Lexeme) (ds : List Due) (vs : List ℕ) (x o : Known) → accepts us (words sessions_word ∷ ds) vs 11 x ≡ Some o → Went (word (codes "sessions")) us ds vs 11 x o
-i_sessions_word [] ds vs x o e = impossible o e
-i_sessions_word (open_bracket ∷ us) ds vs x o e = impossible o e
-i_sessions_word (close_bracket ∷ us) ds vs x o e = impossible o e
-i_sessions_word (line_end ∷ us) ds vs x o e = impossible o e
-i_sessions_word (number n ∷ us) ds vs x o e = impossible o e
-i_sessions_word (word w ∷ us) ds vs x o e = go (same w (codes "sessions")) refl e
+i_sessions_word us ds vs x o e = let a = i_word sessions_word us ds vs 11 x o e in go a (same a.w (codes "sessions")) refl a.goes
   where
-    go : (b : Bool) → same w (codes "sessions") ≡ b → went (accepts us) (cond b (on ds vs 11 x) (no 3 Line)) ≡ Some o → Went (word (codes "sessions")) (word w ∷ us) ds vs 11 x o
-    go true t f = record { rest = us; is = ap (λ v. word v ∷ us) (same_is w (codes "sessions") t); goes = f }
-    go false t f = impossible o f
+    go : (a : WordRead sessions_word us ds vs 11 x o) (b : Bool) → same a.w (codes "sessions") ≡ b → went (accepts a.rest) (cond b (on ds vs 11 x) (no 3 Line)) ≡ Some o → Went (word (codes "sessions")) us ds vs 11 x o
+    go a true t f = record { rest = a.rest; is = a.is ∙ ap (λ v. word v ∷ a.rest) (same_is a.w (codes "sessions") t); goes = f }
+    go a false t f = impossible o f
 
 record Sessions (us : List Lexeme) (ds : List Due) (vs : List ℕ) (x o : Known) : Type 0 where
   k : ℕ
@@ -72,16 +51,11 @@ record Sessions (us : List Lexeme) (ds : List Due) (vs : List ℕ) (x o : Known)
   goes : accepts rest ds vs 11 (record { sessions = k; names = x.names; nodes = x.nodes }) ≡ Some o
 
 i_sessions : (us : List Lexeme) (ds : List Due) (vs : List ℕ) (x o : Known) → accepts us (numbers sessions ∷ ds) vs 11 x ≡ Some o → Sessions us ds vs x o
-i_sessions [] ds vs x o e = impossible o e
-i_sessions (open_bracket ∷ us) ds vs x o e = impossible o e
-i_sessions (close_bracket ∷ us) ds vs x o e = impossible o e
-i_sessions (line_end ∷ us) ds vs x o e = impossible o e
-i_sessions (word w ∷ us) ds vs x o e = impossible o e
-i_sessions (number n ∷ us) ds vs x o e = go (leb 1 n && leb n 4) refl e
+i_sessions us ds vs x o e = let a = i_number sessions us ds vs 11 x o e in go a (leb 1 a.n && leb a.n 4) refl a.goes
   where
-    go : (b : Bool) → (leb 1 n && leb n 4) ≡ b → went (accepts us) (cond b (on ds vs 11 (record { sessions = n; names = x.names; nodes = x.nodes })) (no 6 Line)) ≡ Some o → Sessions (number n ∷ us) ds vs x o
-    go true t f = let p = and_parts (leb 1 n) (leb n 4) t in record { k = n; rest = us; is = refl; least = leb-true 1 n p.0; most = leb-true n 4 p.1; goes = f }
-    go false t f = impossible o f
+    go : (a : NumberRead sessions us ds vs 11 x o) (b : Bool) → (leb 1 a.n && leb a.n 4) ≡ b → went (accepts a.rest) (cond b (on ds vs 11 (record { sessions = a.n; names = x.names; nodes = x.nodes })) (no 6 Line)) ≡ Some o → Sessions us ds vs x o
+    go a true t f = let p = and_parts (leb 1 a.n) (leb a.n 4) t in record { k = a.n; rest = a.rest; is = a.is; least = leb-true 1 a.n p.0; most = leb-true a.n 4 p.1; goes = f }
+    go a false t f = impossible o f
 
 Signal : (us : List Lexeme) (vs : List ℕ) (x o : Known) → Type 0
 Signal us vs x o = Went (word (codes "signal")) us (after_topic topic.Signal) vs 11 x o
@@ -91,17 +65,12 @@ Rule us vs x o = Went (word (codes "rule")) us (after_topic topic.Rule) vs 11 x 
 
 i_topic : (us : List Lexeme) (vs : List ℕ) (x o : Known) → accepts us (words topic ∷ []) vs 11 x ≡ Some o → Signal us vs x o ⊎ Rule us vs x o
 unfolding Signal Rule
-i_topic [] vs x o e = impossible o e
-i_topic (open_bracket ∷ us) vs x o e = impossible o e
-i_topic (close_bracket ∷ us) vs x o e = impossible o e
-i_topic (line_end ∷ us) vs x o e = impossible o e
-i_topic (number n ∷ us) vs x o e = impossible o e
-i_topic (word w ∷ us) vs x o e = go (same w (codes "signal")) refl (same w (codes "rule")) refl e
+i_topic us vs x o e = let a = i_word topic us [] vs 11 x o e in go a (same a.w (codes "signal")) refl (same a.w (codes "rule")) refl a.goes
   where
-    go : (b : Bool) → same w (codes "signal") ≡ b → (c : Bool) → same w (codes "rule") ≡ c → went (accepts us) (lined (cond b (Some topic.Signal) (cond c (Some topic.Rule) None)) [] vs 11 x) ≡ Some o → Signal (word w ∷ us) vs x o ⊎ Rule (word w ∷ us) vs x o
-    go true t c u f = inl (record { rest = us; is = ap (λ v. word v ∷ us) (same_is w (codes "signal") t); goes = f })
-    go false t true u f = inr (record { rest = us; is = ap (λ v. word v ∷ us) (same_is w (codes "rule") u); goes = f })
-    go false t false u f = impossible o f
+    go : (a : WordRead topic us [] vs 11 x o) (b : Bool) → same a.w (codes "signal") ≡ b → (c : Bool) → same a.w (codes "rule") ≡ c → went (accepts a.rest) (lined (cond b (Some topic.Signal) (cond c (Some topic.Rule) None)) [] vs 11 x) ≡ Some o → Signal us vs x o ⊎ Rule us vs x o
+    go a true t c u f = inl (record { rest = a.rest; is = a.is ∙ ap (λ v. word v ∷ a.rest) (same_is a.w (codes "signal") t); goes = f })
+    go a false t true u f = inr (record { rest = a.rest; is = a.is ∙ ap (λ v. word v ∷ a.rest) (same_is a.w (codes "rule") u); goes = f })
+    go a false t false u f = impossible o f
 
 record News (us : List Lexeme) (ds : List Due) (vs : List ℕ) (x o : Known) : Type 0 where
   s : List ℕ
@@ -112,18 +81,13 @@ record News (us : List Lexeme) (ds : List Due) (vs : List ℕ) (x o : Known) : T
   goes : accepts rest ds vs 11 (with_names x (x.names ++ (s ∷ []))) ≡ Some o
 
 i_new : (us : List Lexeme) (ds : List Due) (vs : List ℕ) (x o : Known) → accepts us (words new_name ∷ ds) vs 11 x ≡ Some o → News us ds vs x o
-i_new [] ds vs x o e = impossible o e
-i_new (open_bracket ∷ us) ds vs x o e = impossible o e
-i_new (close_bracket ∷ us) ds vs x o e = impossible o e
-i_new (line_end ∷ us) ds vs x o e = impossible o e
-i_new (number n ∷ us) ds vs x o e = impossible o e
-i_new (word w ∷ us) ds vs x o e = go (is_new x.names w) refl e
+i_new us ds vs x o e = let a = i_word new_name us ds vs 11 x o e in go a (is_new x.names a.w) refl a.goes
   where
-    go : (b : Bool) → is_new x.names w ≡ b → went (accepts us) (cond b (on ds vs 11 (with_names x (x.names ++ (w ∷ [])))) (no 5 Line)) ≡ Some o → News (word w ∷ us) ds vs x o
-    go true t f =
-        let p = and_parts (not (is_some (signal_of x.names w))) (ltb (length x.names) 32) t in
-        record { s = w; rest = us; is = refl; few = ltb-true (length x.names) 32 p.1; fresh = not-true (is_some (signal_of x.names w)) p.0; goes = f }
-    go false t f = impossible o f
+    go : (a : WordRead new_name us ds vs 11 x o) (b : Bool) → is_new x.names a.w ≡ b → went (accepts a.rest) (cond b (on ds vs 11 (with_names x (x.names ++ (a.w ∷ [])))) (no 5 Line)) ≡ Some o → News us ds vs x o
+    go a true t f =
+        let p = and_parts (not (is_some (signal_of x.names a.w))) (ltb (length x.names) 32) t in
+        record { s = a.w; rest = a.rest; is = a.is; few = ltb-true (length x.names) 32 p.1; fresh = not-true (is_some (signal_of x.names a.w)) p.0; goes = f }
+    go a false t f = impossible o f
 
 i_over : (us : List Lexeme) (vs : List ℕ) (room : ℕ) (x o : Known) → accepts us [] vs room x ≡ Some o → us ≡ []
 i_over [] vs room x o e = refl
@@ -186,9 +150,9 @@ signalled n us rest vs x o ih long e a =
     }
 
 sound_lines : (n : ℕ) (us : List Lexeme) (vs : List ℕ) (x o : Known) → length us ≤ n → length x.names ≤ 32 → accepts us (line ∷ []) vs 12 x ≡ Some o → Lined us x
-sound_lines zero us vs x o long few e = let a = i_later us [] vs x o e in absurd (let z : ⊥ = omega (arith, ap length a.is) in z)
+sound_lines zero us vs x o long few e = let a = i_open later_line us [] vs 12 x o e in absurd (let z : ⊥ = omega (arith, ap length a.is) in z)
 sound_lines (suc n) us vs x o long few e =
-    let a = i_later us [] vs x o e in
+    let a = i_open later_line us [] vs 12 x o e in
     elim (i_topic a.rest vs x o a.goes) [
       | inl b ↦ signalled n us a.rest vs x o (λ us x l f e. sound_lines n us vs x o l f e) long a.is b
       | inr b ↦ ruled us a.rest vs x o a.is few b
@@ -205,7 +169,7 @@ pub record CardRead (ts : Tokens) (o : Known) : Type 0 where
 pub accepted_only : (ts : Tokens) (o : Known) → read_tokens ts ≡ accepted o → CardRead ts o
 accepted_only ts o e =
     let u = unplaced ts (opens first_line ∷ []) [] 12 nothing o e in
-    let a = i_first u.us [] [] nothing o u.same in
+    let a = i_open first_line u.us [] [] 12 nothing o u.same in
     let b = i_sessions_word a.rest (numbers sessions ∷ closes ∷ ends ∷ line ∷ []) [] nothing o a.goes in
     let c = i_sessions b.rest (closes ∷ ends ∷ line ∷ []) [] nothing o b.goes in
     let x : Known = record { sessions = c.k; names = []; nodes = [] } in

@@ -1,5 +1,5 @@
 -- What the reading of a card says in the words of the grammar.
-use Rattle.std.proofs.Common.{◌≡◌, ℕ, ◌≤◌, Bool, true, false, cond, ltb, ◌⊎◌, List, [], ◌∷◌, length, sym, refl, ap, ◌∙◌, subst, inl, inr, arith}
+use Rattle.std.proofs.Common.{◌≡◌, ℕ, ◌≤◌, Bool, true, false, cond, ltb, ◌⊎◌, List, [], ◌∷◌, length, Ok, Err, Result, sym, refl, ap, ◌∙◌, subst, inl, inr, arith}
 use Rattle.std.proofs.lemmas.Bool.{ltb-false, le-ltb}
 use Rattle.lexer.specs.declared.fault.Layer.TheVariants.{Line}
 use Rattle.lexer.specs.declared.fault.Report.{Report}
@@ -8,9 +8,13 @@ use Rattle.lexer.specs.declared.fault.TokenFault.TheVariants.{Long, Byte, Run}
 use Rattle.lexer.specs.Faults.{token_report}
 use Rattle.lexer.specs.Lines.{OnLine, Lined, FaultOnLine}
 use Rattle.lexer.specs.Tokens.{Tokens, token, over, bad, card_tokens}
+use Rattle.lexer.proofs.Lining.{lined}
 use Rattle.rule.specs.Nodes.{root, TableFits}
-use Rattle.card.specs.Cards.{Writes}
-use Rattle.card.specs.Grammar.{Written, size, meaning}
+use Rattle.syntax.specs.declared.fault.LineFault.{LineFault}
+use Rattle.syntax.specs.Faults.{line_report}
+use Rattle.card.specs.declared.card.Card.{Card}
+use Rattle.card.specs.Cards.{card_known, said, Writes, Decided, LinedFault}
+use Rattle.card.specs.Grammar.{Written}
 use Rattle.card.specs.Reading.{Due, Known, Step, on, no, admit, layer, accepted, refused, settled, run, opens, first_line, nothing, read_tokens, reading}
 use Rattle.card.proofs.Compile.{compile_size, compile_fits, compile_root}
 use Rattle.card.proofs.Complete.{known_of, accepted_if}
@@ -22,13 +26,13 @@ short_reading bytes h = ap (λ b. cond b (refused (token_report Long)) (read_tok
 
 -- ---- an accepted card
 
-pub record Accepted (bytes : List ℕ) (x : Known) : Type 0 where
+record Accepted (bytes : List ℕ) (x : Known) : Type 0 where
   pub written : Written
   pub writes : Writes bytes written
   pub is : x ≡ known_of written
   pub only : (v : Written) → Writes bytes v → v ≡ written
 
-pub accepted_card : (bytes : List ℕ) (x : Known) → reading bytes ≡ accepted x → Accepted bytes x
+accepted_card : (bytes : List ℕ) (x : Known) → reading bytes ≡ accepted x → Accepted bytes x
 accepted_card bytes x e = go (ltb 4096 (length bytes)) refl e
   where
     go : (b : Bool) → ltb 4096 (length bytes) ≡ b → cond b (refused (token_report Long)) (read_tokens (card_tokens bytes)) ≡ accepted x → Accepted bytes x
@@ -42,22 +46,18 @@ accepted_card bytes x e = go (ltb 4096 (length bytes)) refl e
           only = λ v w. one_reading (card_tokens bytes) v q.card w.derives q.are;
         }
 
-pub accepted_fits : (bytes : List ℕ) (x : Known) → Accepted bytes x → TableFits x.sessions x.nodes
-accepted_fits bytes x a =
+-- its nodes make a table
+pub accepted_fits : (bytes : List ℕ) (x : Known) → accepted x ≡ reading bytes → TableFits x.sessions x.nodes
+accepted_fits bytes x e =
+    let a = accepted_card bytes x (sym e) in
     let w = a.written in
     let within = a.writes.within in
     subst (λ (y : Known). TableFits y.sessions y.nodes) (sym a.is)
     (compile_fits w.names w.sessions w.rule within.least within.most within.few within.small within.fits)
 
-pub accepted_rule : (bytes : List ℕ) (x : Known) (a : Accepted bytes x) → root x.nodes ≡ meaning a.written.names a.written.rule
-accepted_rule bytes x a = ap (λ (y : Known). root y.nodes) a.is ∙ compile_root a.written.names a.written.rule
-
-pub accepted_size : (bytes : List ℕ) (x : Known) (a : Accepted bytes x) → length x.nodes ≡ size a.written.rule
-accepted_size bytes x a = ap (λ (y : Known). length y.nodes) a.is ∙ compile_size a.written.names 0 a.written.rule
-
 -- ---- a refused card
 
-pub refused_card : (bytes : List ℕ) (r : Report) → reading bytes ≡ refused r → (w : Written) → Writes bytes w → ⊥
+refused_card : (bytes : List ℕ) (r : Report) → reading bytes ≡ refused r → (w : Written) → Writes bytes w → ⊥
 refused_card bytes r e w writes =
     let p : refused r ≡ accepted (known_of w) = sym e ∙ short_reading bytes writes.short ∙ accepted_if (card_tokens bytes) w writes.derives writes.within in
     let z : ◌≡◌ {A = ℕ} 0 1 = cc in omega arith
@@ -87,9 +87,31 @@ run_lined bytes (token p t ts) (d ∷ ds) vs room x r l e = go (admit d ds vs ro
     go (on es ws k y) f h = h es ws k y f
     go (no n m) f h = same_report bytes (record { number = n; at = p; layer = m }) r f (inr l.0)
 
-pub refused_lined : (bytes : List ℕ) (r : Report) → Lined bytes (card_tokens bytes) → reading bytes ≡ refused r → OnItsLine bytes r
+refused_lined : (bytes : List ℕ) (r : Report) → Lined bytes (card_tokens bytes) → reading bytes ≡ refused r → OnItsLine bytes r
 refused_lined bytes r l e = go (ltb 4096 (length bytes)) e
   where
     go : (b : Bool) → cond b (refused (token_report Long)) (read_tokens (card_tokens bytes)) ≡ refused r → OnItsLine bytes r
     go true f = same_report bytes (token_report Long) r f (inl refl)
     go false f = run_lined bytes (card_tokens bytes) (opens first_line ∷ []) [] 12 nothing r l f
+
+-- ---- what an answer that is the definition's says
+
+pub decided : (bytes : List ℕ) (r : Result Card LineFault) → said r ≡ reading bytes → Decided bytes r
+decided bytes (Ok c) e =
+    let a = accepted_card bytes (card_known c) (sym e) in
+    let w = a.written in (
+      w,
+      a.writes,
+      record {
+        sessions = ap (λ (y : Known). y.sessions) a.is;
+        names = ap (λ (y : Known). y.names) a.is;
+        rule = ap (λ (y : Known). root y.nodes) a.is ∙ compile_root w.names w.rule;
+        nodes = ap (λ (y : Known). length y.nodes) a.is ∙ compile_size w.names 0 w.rule;
+      },
+      a.only,
+    )
+decided bytes (Err f) e = refused_card bytes (line_report f) (sym e)
+
+pub fault_lined : (bytes : List ℕ) (r : Result Card LineFault) → said r ≡ reading bytes → LinedFault bytes r
+fault_lined bytes (Ok c) e = tt
+fault_lined bytes (Err f) e = refused_lined bytes (line_report f) (lined bytes) (sym e)

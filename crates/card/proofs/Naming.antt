@@ -1,7 +1,7 @@
 -- Names by the reader's search, and names as the grammar has them.
-use Rattle.std.proofs.Common.{◌≡◌, ℕ, zero, suc, ◌+◌, ◌<◌, ◌≤◌, Bool, true, false, cond, ◌⊎◌, List, [], ◌∷◌, ◌++◌, length, get_or, is_some, Some, None, Option, sym, refl, ap, ◌∙◌, subst, inl, inr, append_assoc, append-nil, arith, length-append, rules}
+use Rattle.std.proofs.Common.{◌≡◌, ℕ, zero, suc, ◌+◌, ◌<◌, ◌≤◌, Bool, true, false, cond, ◌⊎◌, List, [], ◌∷◌, ◌++◌, length, get_or, is_some, Some, None, Option, sym, refl, ap, ◌∙◌, subst, inl, inr, append_assoc, append-nil, arith, length-append}
 use Rattle.std.specs.Option.{option_map}
-use Rattle.std.proofs.lemmas.Slice.Eq.{compares_Decides}
+use Rattle.std.proofs.lemmas.Slice.Eq.{bytes_eq-Decides}
 use Rattle.std.proofs.lemmas.List.{get_or_append_left, get_or_at}
 use Rattle.std.proofs.lemmas.Bool.{cases_lt}
 use Rattle.syntax.specs.Words.{same}
@@ -12,10 +12,10 @@ pub impossible : {A : Type 0} {B : Type 0} (o : A) → None ≡ Some o → B
 impossible o e = let z : ◌≡◌ {A = ℕ} 0 1 = cc in absurd (omega arith)
 
 pub same_is : (a b : List ℕ) → same a b ≡ true → a ≡ b
-same_is a b e = (compares_Decides same (search rules) a b).0 e
+same_is a b e = (bytes_eq-Decides a b).0 e
 
 pub is_same : (a b : List ℕ) → a ≡ b → same a b ≡ true
-is_same a b e = (compares_Decides same (search rules) a b).1 e
+is_same a b e = (bytes_eq-Decides a b).1 e
 
 -- a declared name is found, and what is found is declared
 pub declared_found : (ns : List (List ℕ)) (s : List ℕ) → Declared ns s → signal_of ns s ≡ Some (signal ns s)

@@ -49,7 +49,3 @@ unplaced (token p t ts) (d ∷ ds) vs room x y e = go (admit d ds vs room x t) r
 unplaced (over p) [] vs room x y e = let q : x ≡ y = cc in record { us = []; are = tt; same = ap Some q }
 unplaced (over p) (d ∷ ds) vs room x y e = let z : ◌≡◌ {A = ℕ} 0 1 = cc in absurd (omega arith)
 unplaced (bad f) ds vs room x y e = let z : ◌≡◌ {A = ℕ} 0 1 = cc in absurd (omega arith)
-
--- one token is read
-pub step : (t : Lexeme) (us : List Lexeme) (d : Due) (ds : List Due) (vs : List ℕ) (room : ℕ) (x : Known) {s : Step} → admit d ds vs room x t ≡ s → accepts (t ∷ us) (d ∷ ds) vs room x ≡ went (accepts us) s
-step t us d ds vs room x e = ap (went (accepts us)) e

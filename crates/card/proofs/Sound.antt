@@ -12,7 +12,7 @@ use Rattle.syntax.specs.declared.head.Head.TheVariants.{True, At, Near, One, Two
 use Rattle.syntax.specs.declared.head.Unary.TheVariants.{Not, Next, Always}
 use Rattle.card.specs.Grammar.{Formula, truth, at, near, one, two, unary_word, binary_word, listed, spell, size, depth, Declared, AllDeclared, Fits}
 use Rattle.card.specs.Layout.{arity, head_nodes}
-use Rattle.card.specs.Reading.{Due, Known, on, no, form, words, head, signal, mask, numbers, place, limit, names, makes, parts, begun, named, marked, joined, adding}
+use Rattle.card.specs.Reading.{Due, Opens, Words, Numbers, Known, on, no, opens, formula, inside, form, opens_layer, words_layer, numbers_layer, worded, numbered, words, head, signal, mask, numbers, place, limit, names, makes, parts, begun, named, marked, joined, adding}
 use Rattle.syntax.specs.Words.{same, head_of}
 use Rattle.syntax.specs.Signals.{signal_of}
 use Rattle.card.proofs.Compile.{one_size, two_size}
@@ -25,23 +25,58 @@ stray : {B : Type 0} (b : Bool) (us : List Lexeme) (l : Layer) (o : Known) → w
 stray true us l o e = impossible o e
 stray false us l o e = impossible o e
 
-record Opened (us : List Lexeme) (ds : List Due) (vs : List ℕ) (room : ℕ) (x o : Known) : Type 0 where
-  rest : List Lexeme
-  is : us ≡ open_bracket ∷ rest
-  some : 0 < room
-  goes : accepts rest (words head ∷ ds) vs (room - 1) x ≡ Some o
+-- ---- one token
 
-i_open : (us : List Lexeme) (ds : List Due) (vs : List ℕ) (room : ℕ) (x o : Known) → accepts us (form ∷ ds) vs room x ≡ Some o → Opened us ds vs room x o
-i_open [] ds vs room x o e = impossible o e
-i_open (open_bracket ∷ us) ds vs room x o e = go (eqb room 0) refl e
+-- a word is read, and leads to a step
+pub record WordRead (k : Words) (us : List Lexeme) (ds : List Due) (vs : List ℕ) (room : ℕ) (x o : Known) : Type 0 where
+  pub w : List ℕ
+  pub rest : List Lexeme
+  pub is : us ≡ word w ∷ rest
+  pub goes : went (accepts rest) (worded w k ds vs room x) ≡ Some o
+
+pub i_word : (k : Words) (us : List Lexeme) (ds : List Due) (vs : List ℕ) (room : ℕ) (x o : Known) → accepts us (words k ∷ ds) vs room x ≡ Some o → WordRead k us ds vs room x o
+i_word k [] ds vs room x o e = impossible o e
+i_word k (open_bracket ∷ us) ds vs room x o e = stray (eqb room 0) us (words_layer k) o e
+i_word k (close_bracket ∷ us) ds vs room x o e = impossible o e
+i_word k (line_end ∷ us) ds vs room x o e = impossible o e
+i_word k (number n ∷ us) ds vs room x o e = impossible o e
+i_word k (word w ∷ us) ds vs room x o e = record { w = w; rest = us; is = refl; goes = e }
+
+-- the same of a number
+pub record NumberRead (k : Numbers) (us : List Lexeme) (ds : List Due) (vs : List ℕ) (room : ℕ) (x o : Known) : Type 0 where
+  pub n : ℕ
+  pub rest : List Lexeme
+  pub is : us ≡ number n ∷ rest
+  pub goes : went (accepts rest) (numbered n k ds vs room x) ≡ Some o
+
+pub i_number : (k : Numbers) (us : List Lexeme) (ds : List Due) (vs : List ℕ) (room : ℕ) (x o : Known) → accepts us (numbers k ∷ ds) vs room x ≡ Some o → NumberRead k us ds vs room x o
+i_number k [] ds vs room x o e = impossible o e
+i_number k (open_bracket ∷ us) ds vs room x o e = stray (eqb room 0) us (numbers_layer k) o e
+i_number k (close_bracket ∷ us) ds vs room x o e = impossible o e
+i_number k (line_end ∷ us) ds vs room x o e = impossible o e
+i_number k (number n ∷ us) ds vs room x o e = record { n = n; rest = us; is = refl; goes = e }
+i_number k (word w ∷ us) ds vs room x o e = impossible o e
+
+-- an opening bracket is read, and a bracket may open
+pub record Opened (b : Opens) (us : List Lexeme) (ds : List Due) (vs : List ℕ) (room : ℕ) (x o : Known) : Type 0 where
+  pub rest : List Lexeme
+  pub is : us ≡ open_bracket ∷ rest
+  pub some : 0 < room
+  pub goes : accepts rest (inside b ++ ds) vs (room - 1) x ≡ Some o
+
+pub i_open : (b : Opens) (us : List Lexeme) (ds : List Due) (vs : List ℕ) (room : ℕ) (x o : Known) → accepts us (opens b ∷ ds) vs room x ≡ Some o → Opened b us ds vs room x o
+i_open b [] ds vs room x o e = impossible o e
+i_open b (open_bracket ∷ us) ds vs room x o e = go (eqb room 0) refl e
   where
-    go : (b : Bool) → eqb room 0 ≡ b → went (accepts us) (cond b (no 4 Form) (on (words head ∷ ds) vs (room - 1) x)) ≡ Some o → Opened (open_bracket ∷ us) ds vs room x o
+    go : (c : Bool) → eqb room 0 ≡ c → went (accepts us) (cond c (no 4 (opens_layer b)) (on (inside b ++ ds) vs (room - 1) x)) ≡ Some o → Opened b (open_bracket ∷ us) ds vs room x o
     go true t f = impossible o f
     go false t f = let z = eqb-false room 0 t in record { rest = us; is = refl; some = omega arith; goes = f }
-i_open (close_bracket ∷ us) ds vs room x o e = impossible o e
-i_open (line_end ∷ us) ds vs room x o e = impossible o e
-i_open (number n ∷ us) ds vs room x o e = impossible o e
-i_open (word w ∷ us) ds vs room x o e = impossible o e
+i_open b (close_bracket ∷ us) ds vs room x o e = impossible o e
+i_open b (line_end ∷ us) ds vs room x o e = impossible o e
+i_open b (number n ∷ us) ds vs room x o e = impossible o e
+i_open b (word w ∷ us) ds vs room x o e = impossible o e
+
+-- ---- the parts of a form
 
 record Headed (us : List Lexeme) (ds : List Due) (vs : List ℕ) (room : ℕ) (x o : Known) : Type 0 where
   w : List ℕ
@@ -52,16 +87,11 @@ record Headed (us : List Lexeme) (ds : List Due) (vs : List ℕ) (room : ℕ) (x
   goes : accepts rest (parts h ++ ds) vs room x ≡ Some o
 
 i_head : (us : List Lexeme) (ds : List Due) (vs : List ℕ) (room : ℕ) (x o : Known) → accepts us (words head ∷ ds) vs room x ≡ Some o → Headed us ds vs room x o
-i_head [] ds vs room x o e = impossible o e
-i_head (open_bracket ∷ us) ds vs room x o e = stray (eqb room 0) us Form o e
-i_head (close_bracket ∷ us) ds vs room x o e = impossible o e
-i_head (line_end ∷ us) ds vs room x o e = impossible o e
-i_head (number n ∷ us) ds vs room x o e = impossible o e
-i_head (word w ∷ us) ds vs room x o e = go (head_of w) refl e
+i_head us ds vs room x o e = let a = i_word head us ds vs room x o e in go a (head_of a.w) refl a.goes
   where
-    go : (h : Option Head) → head_of w ≡ h → went (accepts us) (begun h ds vs room x) ≡ Some o → Headed (word w ∷ us) ds vs room x o
-    go None t f = impossible o f
-    go (Some h) t f = record { w = w; h = h; rest = us; is = refl; begins = t; goes = f }
+    go : (a : WordRead head us ds vs room x o) (h : Option Head) → head_of a.w ≡ h → went (accepts a.rest) (begun h ds vs room x) ≡ Some o → Headed us ds vs room x o
+    go a None t f = impossible o f
+    go a (Some h) t f = record { w = a.w; h = h; rest = a.rest; is = a.is; begins = t; goes = f }
 
 record Numbered (P : ℕ → Type 0) (value : ℕ → ℕ) (us : List Lexeme) (ds : List Due) (vs : List ℕ) (room : ℕ) (x o : Known) : Type 0 where
   n : ℕ
@@ -71,28 +101,18 @@ record Numbered (P : ℕ → Type 0) (value : ℕ → ℕ) (us : List Lexeme) (d
   goes : accepts rest ds (value n ∷ vs) room x ≡ Some o
 
 i_place : (us : List Lexeme) (ds : List Due) (vs : List ℕ) (room : ℕ) (x o : Known) → accepts us (numbers place ∷ ds) vs room x ≡ Some o → Numbered (λ v. (1 ≤ v) × (v ≤ x.sessions)) (λ v. v - 1) us ds vs room x o
-i_place [] ds vs room x o e = impossible o e
-i_place (open_bracket ∷ us) ds vs room x o e = stray (eqb room 0) us Form o e
-i_place (close_bracket ∷ us) ds vs room x o e = impossible o e
-i_place (line_end ∷ us) ds vs room x o e = impossible o e
-i_place (number n ∷ us) ds vs room x o e = go (leb 1 n && leb n x.sessions) refl e
+i_place us ds vs room x o e = let a = i_number place us ds vs room x o e in go a (leb 1 a.n && leb a.n x.sessions) refl a.goes
   where
-    go : (b : Bool) → (leb 1 n && leb n x.sessions) ≡ b → went (accepts us) (cond b (on ds ((n - 1) ∷ vs) room x) (no 6 Form)) ≡ Some o → Numbered (λ v. (1 ≤ v) × (v ≤ x.sessions)) (λ v. v - 1) (number n ∷ us) ds vs room x o
-    go false t f = impossible o f
-    go true t f = let p = and_parts (leb 1 n) (leb n x.sessions) t in record { n = n; rest = us; is = refl; fits = (leb-true 1 n p.0, leb-true n x.sessions p.1); goes = f }
-i_place (word w ∷ us) ds vs room x o e = impossible o e
+    go : (a : NumberRead place us ds vs room x o) (b : Bool) → (leb 1 a.n && leb a.n x.sessions) ≡ b → went (accepts a.rest) (cond b (on ds ((a.n - 1) ∷ vs) room x) (no 6 Form)) ≡ Some o → Numbered (λ v. (1 ≤ v) × (v ≤ x.sessions)) (λ v. v - 1) us ds vs room x o
+    go a false t f = impossible o f
+    go a true t f = let p = and_parts (leb 1 a.n) (leb a.n x.sessions) t in record { n = a.n; rest = a.rest; is = a.is; fits = (leb-true 1 a.n p.0, leb-true a.n x.sessions p.1); goes = f }
 
 i_limit : (us : List Lexeme) (ds : List Due) (vs : List ℕ) (room : ℕ) (x o : Known) → accepts us (numbers limit ∷ ds) vs room x ≡ Some o → Numbered (λ n. n ≤ 32) (λ n. n) us ds vs room x o
-i_limit [] ds vs room x o e = impossible o e
-i_limit (open_bracket ∷ us) ds vs room x o e = stray (eqb room 0) us Form o e
-i_limit (close_bracket ∷ us) ds vs room x o e = impossible o e
-i_limit (line_end ∷ us) ds vs room x o e = impossible o e
-i_limit (number n ∷ us) ds vs room x o e = go (leb n 32) refl e
+i_limit us ds vs room x o e = let a = i_number limit us ds vs room x o e in go a (leb a.n 32) refl a.goes
   where
-    go : (b : Bool) → leb n 32 ≡ b → went (accepts us) (cond b (on ds (n ∷ vs) room x) (no 6 Form)) ≡ Some o → Numbered (λ n. n ≤ 32) (λ n. n) (number n ∷ us) ds vs room x o
-    go false t f = impossible o f
-    go true t f = record { n = n; rest = us; is = refl; fits = leb-true n 32 t; goes = f }
-i_limit (word w ∷ us) ds vs room x o e = impossible o e
+    go : (a : NumberRead limit us ds vs room x o) (b : Bool) → leb a.n 32 ≡ b → went (accepts a.rest) (cond b (on ds (a.n ∷ vs) room x) (no 6 Form)) ≡ Some o → Numbered (λ n. n ≤ 32) (λ n. n) us ds vs room x o
+    go a false t f = impossible o f
+    go a true t f = record { n = a.n; rest = a.rest; is = a.is; fits = leb-true a.n 32 t; goes = f }
 
 record Named (value : ℕ → ℕ) (us : List Lexeme) (ds : List Due) (vs : List ℕ) (room : ℕ) (x o : Known) : Type 0 where
   s : List ℕ
@@ -103,28 +123,18 @@ record Named (value : ℕ → ℕ) (us : List Lexeme) (ds : List Due) (vs : List
   goes : accepts rest ds (value i ∷ vs) room x ≡ Some o
 
 i_signal : (us : List Lexeme) (ds : List Due) (vs : List ℕ) (room : ℕ) (x o : Known) → accepts us (words signal ∷ ds) vs room x ≡ Some o → Named (λ i. i) us ds vs room x o
-i_signal [] ds vs room x o e = impossible o e
-i_signal (open_bracket ∷ us) ds vs room x o e = stray (eqb room 0) us Form o e
-i_signal (close_bracket ∷ us) ds vs room x o e = impossible o e
-i_signal (line_end ∷ us) ds vs room x o e = impossible o e
-i_signal (number n ∷ us) ds vs room x o e = impossible o e
-i_signal (word w ∷ us) ds vs room x o e = go (signal_of x.names w) refl e
+i_signal us ds vs room x o e = let a = i_word signal us ds vs room x o e in go a (signal_of x.names a.w) refl a.goes
   where
-    go : (i : Option ℕ) → signal_of x.names w ≡ i → went (accepts us) (named i ds vs room x) ≡ Some o → Named (λ i. i) (word w ∷ us) ds vs room x o
-    go None t f = impossible o f
-    go (Some i) t f = record { s = w; i = i; rest = us; is = refl; fits = found_declared x.names w i t; goes = f }
+    go : (a : WordRead signal us ds vs room x o) (i : Option ℕ) → signal_of x.names a.w ≡ i → went (accepts a.rest) (named i ds vs room x) ≡ Some o → Named (λ i. i) us ds vs room x o
+    go a None t f = impossible o f
+    go a (Some i) t f = record { s = a.w; i = i; rest = a.rest; is = a.is; fits = found_declared x.names a.w i t; goes = f }
 
 i_mask : (us : List Lexeme) (ds : List Due) (vs : List ℕ) (room : ℕ) (x o : Known) → accepts us (words mask ∷ ds) vs room x ≡ Some o → Named (λ i. 2 ^ i) us ds vs room x o
-i_mask [] ds vs room x o e = impossible o e
-i_mask (open_bracket ∷ us) ds vs room x o e = stray (eqb room 0) us Form o e
-i_mask (close_bracket ∷ us) ds vs room x o e = impossible o e
-i_mask (line_end ∷ us) ds vs room x o e = impossible o e
-i_mask (number n ∷ us) ds vs room x o e = impossible o e
-i_mask (word w ∷ us) ds vs room x o e = go (signal_of x.names w) refl e
+i_mask us ds vs room x o e = let a = i_word mask us ds vs room x o e in go a (signal_of x.names a.w) refl a.goes
   where
-    go : (i : Option ℕ) → signal_of x.names w ≡ i → went (accepts us) (marked i ds vs room x) ≡ Some o → Named (λ i. 2 ^ i) (word w ∷ us) ds vs room x o
-    go None t f = impossible o f
-    go (Some i) t f = record { s = w; i = i; rest = us; is = refl; fits = found_declared x.names w i t; goes = f }
+    go : (a : WordRead mask us ds vs room x o) (i : Option ℕ) → signal_of x.names a.w ≡ i → went (accepts a.rest) (marked i ds vs room x) ≡ Some o → Named (λ i. 2 ^ i) us ds vs room x o
+    go a None t f = impossible o f
+    go a (Some i) t f = record { s = a.w; i = i; rest = a.rest; is = a.is; fits = found_declared x.names a.w i t; goes = f }
 
 -- the closing bracket of a form finds room for its nodes
 closed : (ns : List Node) (us : List Lexeme) (ds : List Due) (vs : List ℕ) (room : ℕ) (x o : Known) → went (accepts us) (adding ns ds vs room x) ≡ Some o → length x.nodes + length ns ≤ 64
@@ -274,9 +284,9 @@ by_head (Two b) r ih us ds vs x o e =
 
 pub sound : (room : ℕ) (us : List Lexeme) (ds : List Due) (vs : List ℕ) (x o : Known) → accepts us (form ∷ ds) vs room x ≡ Some o → FormRead room us x
 unfolding Reader
-sound zero us ds vs x o e = let a = i_open us ds vs 0 x o e in absurd (let z : ⊥ = omega (arith, a.some) in z)
+sound zero us ds vs x o e = let a = i_open formula us ds vs 0 x o e in absurd (let z : ⊥ = omega (arith, a.some) in z)
 sound (suc r) us ds vs x o e =
-    let a = i_open us ds vs (suc r) x o e in
+    let a = i_open formula us ds vs (suc r) x o e in
     let down : suc r - 1 ≡ r = omega arith in
     let b = i_head a.rest ds vs r x o (ap (λ n. accepts a.rest (words head ∷ ds) vs n x) (sym down) ∙ a.goes) in
     let is : us ≡ open_bracket ∷ word (head_word b.h) ∷ b.rest = a.is ∙ ap (λ l. open_bracket ∷ l) (b.is ∙ ap (λ w. word w ∷ b.rest) (word_is b.w b.h b.begins)) in

@@ -1,13 +1,13 @@
 //! Cards.
 ghost use Rattle.std.specs.Prelude.{◌≡◌};
 ghost use Rattle.card.specs.Cards.{said, Decided, LinedFault};
-ghost use Rattle.card.specs.Holding.{scanned};
-ghost use Rattle.card.specs.Reading.{reading};
+ghost use Rattle.syntax.specs.Faults.{line_report};
+ghost use Rattle.card.specs.Holding.{after, drafted};
+ghost use Rattle.card.specs.Reading.{accepted, reading};
 
 use crate::reader::{Draft, Reader};
-use fixed_vec::FixedVec;
-use lexer::{Lexer, check_length};
-use rule::{Node, Table};
+use lexer::check_length;
+use rule::Table;
 use syntax::{LineFault, Names};
 
 /// What an accepted card says: the names of its signals, and its rule as a table. The table's
@@ -20,18 +20,10 @@ pub struct Card {
 
 /// Reads a card, token by token.
 fn scan(card: &[u8]) -> Result<Draft, LineFault>
-    ensures { scanned result ≡ reading card.now }
+    ensures { after line_report result (λ d. accepted (drafted d)) ≡ reading card.now }
 {
     check_length(card)?;
-    let draft = Draft {
-        sessions: 0,
-        names: Names::new(),
-        nodes: FixedVec::new(Node::True),
-    };
-    let mut reader = Reader {
-        lexer: Lexer::new(card),
-        draft,
-    };
+    let mut reader = Reader::new(card);
     reader.lines()?;
     Ok(reader.draft)
 }
@@ -46,13 +38,8 @@ pub fn read(card: &[u8]) -> Result<Card, LineFault>
     ensures grammar { Decided card.now result }
     ensures lines { LinedFault card.now result }
 {
-    let Draft {
-        sessions,
-        names,
-        nodes,
-    } = scan(card)?;
-    match Table::new(sessions as usize, nodes.as_slice()) {
-        Some(table) => Ok(Card { names, table }),
-        None => unreachable(),
-    }
+    let draft = scan(card)?;
+    let table = Table::new(draft.sessions as usize, draft.nodes.as_slice()).unwrap();
+    let names = draft.names;
+    Ok(Card { names, table })
 }

@@ -4,12 +4,10 @@ ghost use Rattle.rule.specs.Nodes.{NodeFits, TableFits};
 ghost use Rattle.rule.specs.declared.node.Node.TheVariants.{True};
 
 use crate::node::Node;
+use policy::MOST_PLACES;
 
 /// The most nodes of a table.
-const MOST_NODES: usize = 64;
-
-/// The most places of a table.
-const MOST_PLACES: usize = 4;
+pub const MOST_NODES: usize = 64;
 
 /// Whether each node may stand at its index.
 fn all_fit(places: usize, nodes: &[Node]) -> bool

@@ -5,5 +5,6 @@ mod fits;
 mod node;
 mod table;
 
+pub use fits::MOST_NODES;
 pub use node::Node;
 pub use table::Table;

@@ -4,6 +4,7 @@ ghost use Rattle.rule.specs.Testing.{table_test};
 
 mod methods;
 
+use crate::fits::MOST_NODES;
 use crate::node::Node;
 use fixed_vec::FixedVec;
 
@@ -14,6 +15,6 @@ use fixed_vec::FixedVec;
 #[derive(Drop)]
 pub struct Table {
     places: usize,
-    nodes: FixedVec<Node, 64>,
+    nodes: FixedVec<Node, MOST_NODES>,
     ghost sound: { table_test places (items_of nodes) ≡ true },
 }

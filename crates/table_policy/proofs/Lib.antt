@@ -1,3 +1,3 @@
 mod Reached
-mod Rows
 mod Sampling
+mod Rows

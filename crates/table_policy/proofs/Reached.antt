@@ -3,13 +3,18 @@ use Rattle.std.proofs.Common.{◌≡◌, ℕ, zero, suc, ◌-◌, ◌<◌, Bool,
 use Rattle.policy.specs.Sessions.{On}
 use Rattle.rule.specs.declared.node.Node.{Node}
 use Rattle.rule.specs.declared.node.Node.TheVariants.{True, At, Near, Not, And, Or, Next, Until}
+use Rattle.rule.proofs.Tested.{table_fits}
 use Rattle.rule.proofs.Unfold.{unfolds}
 use Rattle.rule.specs.Nodes.{NodeFits, TableFits, node_rule, rules, rule_at, root}
 use Rattle.rule.specs.Rule.{Rule, truth}
 use Rattle.rule.specs.Standing.{Looks}
+use Rattle.rule.specs.Tables.{nodes_of, rule_of}
 use Rattle.rule.specs.Ways.{IsChild, Way, count_not, nots, sense, Tells, Reached}
+use Rattle.table_policy.specs.declared.table_policy.TablePolicy.{TablePolicy}
+use Rattle.table_policy.specs.Judged.{rule_judges, joined_only}
 use Rattle.table_policy.specs.Masks.{mask}
 use Rattle.table_policy.specs.Signals.{looks_mask, mask_looks}
+use Rattle.table_policy.specs.Tables.{IsPolicyOf}
 
 -- how a child is met
 turn : Node → Bool → Bool
@@ -128,3 +133,16 @@ sets_reached p k ns s fits = (
   λ o. looks_way k ns fits s (length ns) (length ns - 1) p (omega (arith, fits.some)) (omega (arith, fits.some)) (mask_looks p (root ns) s o),
   λ r. looks_mask p (root ns) s (way_looks k ns fits s r.0 (length ns - 1) r.1 p (omega (arith, fits.some)) r.3 r.4),
 )
+
+-- a policy with the signals of its table's rule is the table's
+pub policy_of : (p : TablePolicy) → IsPolicyOf p.table p
+policy_of p =
+    let t = p.table in
+    let fits = table_fits t in
+    record {
+      table_kept = refl;
+      exact = rule_judges t.places (rule_of t) fits.low;
+      upright_reached = λ s. subst (λ (m : ℕ). On m s ↔ Reached true (nodes_of t) s) (sym p.up) (sets_reached true t.places (nodes_of t) s fits);
+      inverted_reached = λ s. subst (λ (m : ℕ). On m s ↔ Reached false (nodes_of t) s) (sym p.down) (sets_reached false t.places (nodes_of t) s fits);
+      joined_only = joined_only t.places (rule_of t);
+    }

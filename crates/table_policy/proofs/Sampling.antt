@@ -1,7 +1,6 @@
 -- What is said of the worked samples is what the meaning of rules gives, by one test.
-use Rattle.std.proofs.Common.{◌≡◌, ℕ, zero, suc, ◌<◌, Bool, true, false, not, ◌&&◌, leb, List, [], ◌∷◌, map, length, get_or, Some, Decides, MatchBool, sym, refl, ◌∙◌, arith}
-use Rattle.std.specs.Option.{option_map}
-use Rattle.std.specs.List.{AllByRecursion, slice_get}
+use Rattle.std.proofs.Common.{◌≡◌, Bool, true, false, not, ◌&&◌, leb, List, [], ◌∷◌, Decides, MatchBool, sym, refl, ◌∙◌}
+use Rattle.std.specs.List.{AllByRecursion}
 use Rattle.std.proofs.lemmas.Bool.{and_parts, leb-true, false≢true}
 use Rattle.policy.proofs.Tested.{tuple_decides}
 use Rattle.policy.proofs.Tuples.{steps_between}
@@ -49,9 +48,3 @@ passed = refl
 
 pub samples_right : AllByRecursion Right samples
 samples_right = each_right samples passed
-
--- what is said of the sample at an index, in the list of what is said
-pub told : (ss : List Sample) (i : ℕ) → i < length ss → Some (get_or (map (λ (s : Sample). s.holds) ss) i false) ≡ option_map (λ (s : Sample). s.holds) (slice_get ss i)
-told [] i l = absurd (omega arith)
-told (s ∷ ss) zero l = refl
-told (s ∷ ss) (suc i) l = told ss i (omega arith)

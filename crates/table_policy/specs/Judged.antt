@@ -65,9 +65,9 @@ joined_only k f xs ys isx isy e same =
 -- ---- what the code tells
 
 -- what is no tuple breaks nothing
-pub no_tuple : (k p : ℕ) (f : Rule) (xs : Tuple) (r : Bool) → 1 ≤ k → p ≡ k → Decides r (IsTuple p xs) → r ≡ false → false ≡ breaks_test k f xs
+pub no_tuple : (k p : ℕ) (f : Rule) (xs : Tuple) (r : Bool) → 1 ≤ k → p ≡ k → Decides r (IsTuple p xs) → r ≡ false → r ≡ breaks_test k f xs
 no_tuple k p f xs r some e d off =
-    same_from_decides _ _ (λ z. absurd (false≢true z), λ b. absurd (not_from_Decides r d off (subst (λ (x : ℕ). IsTuple x xs) (sym e) b.0))) (breaks_decides k f xs some)
+    off ∙ same_from_decides _ _ (λ z. absurd (false≢true z), λ b. absurd (not_from_Decides r d off (subst (λ (x : ℕ). IsTuple x xs) (sym e) b.0))) (breaks_decides k f xs some)
 
 -- a tuple breaks a rule that is not true at the first step of its joined word
 pub by_word : (k : ℕ) (f : Rule) (xs ws : Tuple) (m : ℕ) (v : Bool) → IsTuple k xs → m ≡ shortest xs → ((v i : ℕ) → i < shortest xs → letter ws v i ≡ letter xs v i) → v ≡ eval ws m f m → not v ≡ breaks_test k f xs

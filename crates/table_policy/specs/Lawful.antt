@@ -1,8 +1,7 @@
 -- The policy of a table keeps the laws.
 use Rattle.policy.specs.Policy.{Lawful}
-use Rattle.rule.proofs.Tested.{table_decides}
-use Rattle.rule.specs.Nodes.{TableFits}
-use Rattle.rule.specs.Tables.{nodes_of, rule_of}
+use Rattle.rule.proofs.Tested.{table_fits}
+use Rattle.rule.specs.Tables.{rule_of}
 use Rattle.table_policy.specs.declared.table_policy.TablePolicy.{TablePolicy}
 use Rattle.table_policy.specs.Tables.{table_means}
 use Rattle.table_policy.specs.Judged.{rule_lawful}
@@ -10,5 +9,5 @@ use Rattle.table_policy.specs.Judged.{rule_lawful}
 pub table_lawful : (p : TablePolicy) → Lawful (table_means p)
 table_lawful p =
     let t = p.table in
-    let fits : TableFits t.places (nodes_of t) = (table_decides t.places (nodes_of t)).0 t.sound in
+    let fits = table_fits t in
     rule_lawful t.places (rule_of t) fits.low fits.high

@@ -25,7 +25,7 @@ pub record IsPolicyOf (t : Table) (p : TablePolicy) : Type 0 where
   -- a tuple breaks it exactly where the rule does not hold, and a session stands exactly as defined
   pub exact : Judges (table_means p) t.places (Breaks t.places (rule_of t)) (StandsFor (rule_of t))
   -- its sets are the signals of the nodes on the ways from the rule down
-  pub upright_reached : (s : ℕ) → On p.upright s ↔ Reached true (nodes_of t) s
-  pub inverted_reached : (s : ℕ) → On p.inverted s ↔ Reached false (nodes_of t) s
+  pub upright_reached : (s : ℕ) → On p.signals.upright s ↔ Reached true (nodes_of t) s
+  pub inverted_reached : (s : ℕ) → On p.signals.inverted s ↔ Reached false (nodes_of t) s
   -- tuples with the same joined word are judged alike, whatever follows it
   pub joined_only : (xs ys : Tuple) → IsTuple t.places xs → IsTuple t.places ys → shortest xs ≡ shortest ys → ((v i : ℕ) → i < shortest xs → letter xs v i ≡ letter ys v i) → (table_means p).breaks xs ≡ (table_means p).breaks ys

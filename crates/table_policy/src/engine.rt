@@ -1,26 +1,18 @@
 //! The engine: the values of all nodes, from the last step of a joined word back.
-ghost use Rattle.std.specs.Prelude.{◌≡◌, suc, ◌-◌, ◌<◌, length, nat_le};
-ghost use Rattle.policy.specs.Sessions.{on, letters, sessions};
+ghost use Rattle.std.specs.Prelude.{◌≡◌, ℕ, suc, ◌-◌, ◌<◌, false, List, length, nat_le, slice_index_or};
+ghost use Rattle.policy.specs.Sessions.{Tuple, letters, sessions};
 ghost use Rattle.rule.specs.Meaning.{differing};
-ghost use Rattle.rule.specs.Nodes.{NodeFits, TableFits, root};
+ghost use Rattle.rule.specs.Nodes.{NodeFits, node_rule, rules};
+ghost use Rattle.rule.specs.Rule.{Rule};
+ghost use Rattle.rule.specs.Tables.{nodes_of, rule_of};
 ghost use Rattle.table_policy.specs.Evaluating.{eval};
-ghost use Rattle.table_policy.specs.Inner.Rows.{node_value, RowIs};
+ghost use Rattle.table_policy.specs.Inner.Rows.{RowIs, ValueIs};
 
-use policy::letters_at;
-use rule::Node;
-
-/// The most nodes of a table.
-const MOST_NODES: usize = 64;
-
-/// Whether a signal is on in a letter.
-fn is_on(letter: u32, signal: u8) -> bool
-    requires { signal < 32 }
-    ensures { result ≡ on letter signal }
-{
-    (letter >> signal) & 1 == 1
-}
+use policy::{JoinedWord, is_on};
+use rule::{MOST_NODES, Node, Table};
 
 /// Whether two letters differ in at most `limit` of the signals of the mask.
+#[tactic(auto, using(crate::specs::Signals::differing_ones))]
 fn is_near(mask: u32, a: u32, b: u32, limit: u32) -> bool
     ensures { result ≡ nat_le (differing mask a b) limit }
 {
@@ -29,10 +21,18 @@ fn is_near(mask: u32, a: u32, b: u32, limit: u32) -> bool
 
 /// The value of a node at a step, from the step's letters, the values of the nodes before it and
 /// those of all nodes a step later.
-fn value(node: Node, index: usize, letters: &[u32; 4], row: &[bool; 64], later: &[bool; 64]) -> bool
+// No struct of these: it would take a second method, to write the row, and three ghost lengths.
+#[tactic(auto, using(policy::proofs::Places::letters_at), unfolding(crate::specs::Evaluating::until_back))]
+fn value(
+    node: Node,
+    index: usize,
+    letters: &[u32; 4],
+    row: &[bool; MOST_NODES],
+    later: &[bool; MOST_NODES],
+) -> bool
     requires fits { NodeFits 4 index node }
     requires small { index < 64 }
-    ensures { result ≡ node_value letters.now row.now later.now index node }
+    ensures { ValueIs letters.now row.now later.now index node result }
 {
     match node {
         Node::True => true,
@@ -58,33 +58,30 @@ fn value(node: Node, index: usize, letters: &[u32; 4], row: &[bool; 64], later: 
 
 /// The values of all nodes at a step, from those a step later.
 fn row_at(
-    nodes: &[Node],
-    word: &[&[u32]; 4],
-    steps: usize,
+    table: &Table,
+    word: &JoinedWord,
     step: usize,
-    later: &[bool; 64],
-) -> [bool; 64]
-    requires fits { TableFits 4 nodes.now }
-    requires step { step < steps }
-    requires after { RowIs (sessions word.now) steps nodes.now later.now (steps - suc step) (length nodes.now) }
-    ensures { RowIs (sessions word.now) steps nodes.now result (steps - step) (length nodes.now) }
+    later: &[bool; MOST_NODES],
+) -> [bool; MOST_NODES]
+    requires step { step < word.now.steps }
+    requires after { RowIs (sessions word.now.places) word.now.steps (rules (nodes_of table.now)) later.now (word.now.steps - suc step) (length (nodes_of table.now)) }
+    ensures { RowIs (sessions word.now.places) word.now.steps (rules (nodes_of table.now)) result (word.now.steps - step) (length (nodes_of table.now)) }
 {
-    let letters = letters_at(word, step);
+    let letters = word.letters_at(step);
     let mut row = [false; MOST_NODES];
-    for (index, node) in nodes.iter().enumerate() {
+    for (index, node) in table.nodes().iter().enumerate() {
         row[index] = value(*node, index, &letters, &row, later);
     }
     row
 }
 
 /// The value of the last node at the first step of a joined word.
-pub(crate) fn first_value(nodes: &[Node], word: &[&[u32]; 4], steps: usize) -> bool
-    requires { TableFits 4 nodes.now }
-    ensures { result ≡ eval (sessions word.now) steps (root nodes.now) steps }
+pub(crate) fn first_value(table: &Table, word: &JoinedWord) -> bool
+    ensures { result ≡ eval (sessions word.now.places) word.now.steps (rule_of table.now) word.now.steps }
 {
     let mut row = [false; MOST_NODES];
-    for step in (0..steps).rev() {
-        row = row_at(nodes, word, steps, step, &row);
+    for step in (0..word.len()).rev() {
+        row = row_at(table, word, step, &row);
     }
-    row[nodes.len() - 1]
+    row[table.nodes().len() - 1]
 }

@@ -4,6 +4,7 @@ ghost use Rattle.table_policy.specs.Masks.{mask};
 
 mod methods;
 
+use policy::Signals;
 use rule::Table;
 
 /// The policy of a rule: a tuple breaks it where the rule does not hold at the first step of the
@@ -13,8 +14,7 @@ use rule::Table;
 #[derive(Drop)]
 pub struct TablePolicy {
     table: Table,
-    upright: u32,
-    inverted: u32,
-    ghost up: { upright ≡ mask true (rule_of table) },
-    ghost down: { inverted ≡ mask false (rule_of table) },
+    signals: Signals,
+    ghost up: { signals.upright ≡ mask true (rule_of table) },
+    ghost down: { signals.inverted ≡ mask false (rule_of table) },
 }

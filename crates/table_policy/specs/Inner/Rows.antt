@@ -1,41 +1,28 @@
 -- Inner: what the engine holds on the way. No public contract cites it.
-use Rattle.std.specs.Prelude.{◌≡◌, ℕ, ◌^◌, ◌<◌, Bool, true, false, not, ◌&&◌, ◌||◌, List, bit_or, nat_le, slice_index, slice_index_or}
-use Rattle.policy.specs.Sessions.{Letter, Tuple, on}
+use Rattle.std.specs.Prelude.{◌≡◌, ℕ, suc, ◌-◌, ◌<◌, Bool, true, false, List, length, slice_index_or}
+use Rattle.policy.specs.declared.signals.Signals.{Signals}
+use Rattle.policy.specs.Sessions.{Letter, Tuple, letters}
 use Rattle.rule.specs.declared.node.Node.{Node}
-use Rattle.rule.specs.declared.node.Node.TheVariants.{True, At, Near, Not, And, Or, Next, Until}
-use Rattle.rule.specs.Meaning.{differing}
-use Rattle.rule.specs.Nodes.{rule_at}
+use Rattle.rule.specs.Nodes.{node_rule}
+use Rattle.rule.specs.Rule.{Rule, truth}
 use Rattle.table_policy.specs.Evaluating.{eval}
 use Rattle.table_policy.specs.Masks.{mask}
 
--- the value of the node at the index j, from the step's letters, the values of the nodes before it
--- and those of all nodes a step later
-abbrev pub node_value : List Letter → List Bool → List Bool → ℕ → Node → Bool
-node_value ls row later j True = true
-node_value ls row later j (At v s) = on (slice_index ls v) s
-node_value ls row later j (Near v w n S) = nat_le (differing S (slice_index ls v) (slice_index ls w)) n
-node_value ls row later j (Not f) = not (slice_index_or row f false)
-node_value ls row later j (And f g) = slice_index_or row f false && slice_index_or row g false
-node_value ls row later j (Or f g) = slice_index_or row f false || slice_index_or row g false
-node_value ls row later j (Next f) = slice_index_or later f false
-node_value ls row later j (Until f g) = slice_index_or row g false || (slice_index_or row f false && slice_index_or later j false)
+-- the first n values of a row are those of the rules where d of the m steps are left
+abbrev pub RowIs : Tuple → ℕ → List Rule → List Bool → ℕ → ℕ → Type 0
+RowIs xs m rs row d n = (c : ℕ) → c < n → slice_index_or row c false ≡ eval xs m (slice_index_or rs c truth) d
 
--- the first n values of a row are those of the nodes where d of the m steps are left
-abbrev pub RowIs : Tuple → ℕ → List Node → List Bool → ℕ → ℕ → Type 0
-RowIs xs m ns row d n = (c : ℕ) → c < n → slice_index_or row c false ≡ eval xs m (rule_at ns c) d
+-- v is the value of a node at an index, where the row holds those of the nodes before it at a step,
+-- and the later row those of the nodes up to it at the next
+abbrev pub ValueIs : List Letter → List Bool → List Bool → ℕ → Node → Bool → Type 0
+ValueIs ls row later j n v =
+    (xs : Tuple) (m d : ℕ) (rs : List Rule) → ls ≡ letters xs (m - suc d) → RowIs xs m rs row (suc d) j → RowIs xs m rs later d j
+    → slice_index_or later j false ≡ eval xs m (node_rule rs n) d → v ≡ eval xs m (node_rule rs n) (suc d)
 
--- the signals that a node reads, from those of the nodes before it, in this sense and in the other
-abbrev pub node_mask : Bool → List ℕ → List ℕ → Node → ℕ
-node_mask p same other True = 0
-node_mask true same other (At v s) = 2 ^ s
-node_mask false same other (At v s) = 0
-node_mask p same other (Near v w n S) = S
-node_mask p same other (Not f) = slice_index other f
-node_mask p same other (And f g) = bit_or (slice_index same f) (slice_index same g)
-node_mask p same other (Or f g) = bit_or (slice_index same f) (slice_index same g)
-node_mask p same other (Next f) = slice_index same f
-node_mask p same other (Until f g) = bit_or (slice_index same f) (slice_index same g)
+-- the signals that a rule reads
+abbrev pub signals_read : Rule → Signals
+signals_read f = record { upright = mask true f; inverted = mask false f }
 
--- the first n numbers are the sets of the nodes
-abbrev pub MasksAre : Bool → List Node → List ℕ → ℕ → Type 0
-MasksAre p ns masks n = (c : ℕ) → c < n → slice_index masks c ≡ mask p (rule_at ns c)
+-- the signals are those that the first rules read
+abbrev pub Reads : List Rule → List Signals → Type 0
+Reads rs xs = (c : ℕ) → c < length xs → slice_index_or xs c (signals_read truth) ≡ signals_read (slice_index_or rs c truth)

@@ -7,9 +7,9 @@ ghost use Rattle.table_policy.specs.Tables.{table_means, IsPolicyOf};
 ghost use Rattle.table_policy.specs.Lawful.{table_lawful};
 
 use crate::engine::first_value;
-use crate::masks::masks;
+use crate::masks::signals;
 use crate::table_policy::TablePolicy;
-use policy::{Policy, is_tuple, joined, stands_by, steps};
+use policy::{JoinedWord, Policy, is_tuple};
 use rule::Table;
 
 impl TablePolicy {
@@ -17,12 +17,8 @@ impl TablePolicy {
     pub fn new(table: Table) -> TablePolicy
         ensures { IsPolicyOf table result }
     {
-        let (upright, inverted) = masks(table.nodes());
-        TablePolicy {
-            table,
-            upright,
-            inverted,
-        }
+        let signals = signals(&table);
+        TablePolicy { table, signals }
     }
 }
 
@@ -39,16 +35,13 @@ impl Policy for TablePolicy {
         ensures same { result ≡ (table_means self.now).breaks (sessions tuple.now) }
         ensures exact { Decides result (Breaks self.now.table.places (rule_of self.now.table) (sessions tuple.now)) }
     {
-        if !is_tuple(tuple, self.table.places()) {
-            return false;
-        }
-        !first_value(self.table.nodes(), &joined(tuple), steps(tuple))
+        is_tuple(tuple, self.table.places()) && !first_value(&self.table, &JoinedWord::new(tuple))
     }
 
     fn stands_for(&self, s: &[u32], t: &[u32]) -> bool
         ensures same { result ≡ (table_means self.now).stands s.now t.now }
         ensures exact { Decides result (StandsFor (rule_of self.now.table) s.now t.now) }
     {
-        stands_by(self.upright, self.inverted, s, t)
+        self.signals.stands_for(s, t)
     }
 }

@@ -5,4 +5,4 @@ use Rattle.table_policy.proofs.table_policy.methods.TablePolicyPolicy.stands_for
 pub returns : goal.returns
 returns c =
     let self = c.args.self.now in
-    told_standing (rule_of self.table) self.upright self.inverted c.args.s.now c.args.t.now c.stands_by.result self.up self.down c.stands_by.ensures
+    told_standing (rule_of self.table) self.signals.upright self.signals.inverted c.args.s.now c.args.t.now c.stands_for.result self.up self.down c.stands_for.ensures

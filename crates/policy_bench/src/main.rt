@@ -9,7 +9,7 @@ use policy::Policy;
 use std::time::Instant;
 use std::{env, io};
 use table_policy::TablePolicy;
-use tables::table;
+use tables::Size;
 use words::session;
 
 /// How many tuples are judged for each table.
@@ -20,45 +20,39 @@ const STEPS: u128 = 128;
 
 /// Whether the program was asked for times.
 fn is_timed(rt: &HostRuntime) -> io::Result<bool> {
-    for word in env::args(rt)? {
-        if word.as_str() == "time" {
-            return Ok(true);
-        }
-    }
-    Ok(false)
+    Ok(env::args(rt)?.any(|word| word.as_str() == "time"))
 }
 
-/// How many tuples of so many places break the policy, the first session another in each round.
-fn broken(policy: &TablePolicy, places: u8) -> u32 {
-    let mut first = session(1);
-    let second = session(2);
-    let third = session(3);
-    let fourth = session(4);
-    let mut count = 0u32;
-    for round in 0..ROUNDS {
-        let letter = round.wrapping_mul(2654435761);
-        first[0] = letter ^ (letter >> 16);
-        let tuple: [&[u32]; 4] = [&first, &second, &third, &fourth];
-        if policy.breaks(&tuple[0..(places as usize).min(4)]) {
-            count = count.wrapping_add(1);
-        }
-    }
-    count
+/// Whether the tuple of a round breaks the policy: its first session is another in each round.
+fn is_broken(policy: &TablePolicy, mut first: [u32; 128], rest: &[&[u32]; 3], round: u32) -> bool {
+    let letter = round.wrapping_mul(2654435761);
+    first[0] = letter ^ (letter >> 16);
+    let tuple: [&[u32]; 4] = [&first, rest[0], rest[1], rest[2]];
+    policy.breaks(&tuple[..policy.arity().min(4)])
 }
 
-/// Prints what came of a table of so many nodes and places.
-fn report(rt: &HostRuntime, nodes: u8, places: u8, timed: bool) -> io::Result<()> {
-    let Some(table) = table(nodes, places) else {
+/// How many tuples break the policy.
+fn broken(policy: &TablePolicy) -> usize {
+    let first = session(1);
+    let rest: [&[u32]; 3] = [&session(2), &session(3), &session(4)];
+    (0..ROUNDS)
+        .filter(|round| is_broken(policy, first, &rest, *round))
+        .count()
+}
+
+/// Prints what came of a table of a size.
+fn report(rt: &HostRuntime, size: Size, timed: bool) -> io::Result<()> {
+    let Some(table) = size.table(rt.alloc())? else {
         return println!(rt; "no table");
     };
     let policy = TablePolicy::new(table);
     let start = Instant::now(rt)?;
-    let count = broken(&policy, places);
+    let count = broken(&policy);
     let spent = start.elapsed(rt)?;
-    println!(rt; "{nodes} nodes, {places} sessions: {count} of {ROUNDS} tuples broke the rule")?;
+    println!(rt; "{size}: {count} of {ROUNDS} tuples broke the rule")?;
     if timed {
         let picoseconds = spent.as_nanos().saturating_mul(1000)
-            / (nodes as u128 * STEPS * ROUNDS as u128).max(1);
+            / (size.nodes as u128 * STEPS * ROUNDS as u128).max(1);
         println!(rt; "  {picoseconds} ps for a node at a step")?;
     }
     Ok(())
@@ -68,7 +62,7 @@ fn main(rt: HostRuntime) -> io::Result<()> {
     let timed = is_timed(&rt)?;
     for nodes in [8, 64] {
         for places in [2, 4] {
-            report(&rt, nodes, places, timed)?;
+            report(&rt, Size { nodes, places }, timed)?;
         }
     }
     Ok(())

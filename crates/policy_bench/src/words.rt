@@ -1,7 +1,7 @@
 //! Sessions to measure with.
 
 /// A session of 128 letters that looks random, another for each seed.
-pub fn session(seed: u32) -> [u32; 128] {
+pub(crate) fn session(seed: u32) -> [u32; 128] {
     let mut letters = [0; 128];
     let mut state = seed;
     for letter in letters.iter_mut() {

@@ -43,50 +43,54 @@ pub no_tuple : (k : ℕ) (es : List Edge) (good : ℕ) (xs : Tuple) (r : Bool) �
 no_tuple k es good xs r d off = same_from_decides _ _ (λ z. absurd (false≢true z), λ b. absurd (not_from_Decides r d off b.0)) (breaks_decides k es good xs)
 
 -- a tuple breaks an automaton that does not accept its joined word
-pub by_word : (k : ℕ) (es used : List Edge) (good : ℕ) (xs ws : Tuple) (m : ℕ) (r : Bool) → IsTuple k xs → used ≡ es → m ≡ shortest xs → ((v i : ℕ) → i < shortest xs → letter ws v i ≡ letter xs v i)
-    → r ≡ accepts k used good ws m 0 0 → not r ≡ breaks_test k es good xs
+pub by_word : (k : ℕ) (es : List Edge) (good : ℕ) (xs ws : Tuple) (m : ℕ) (r : Bool) → IsTuple k xs → m ≡ shortest xs → ((v i : ℕ) → i < shortest xs → letter ws v i ≡ letter xs v i)
+    → r ≡ accepts k es good ws m 0 0 → not r ≡ breaks_test k es good xs
 unfolding breaks_test
-by_word k es used good xs ws m r is rows long same e =
+by_word k es good xs ws m r is long same e =
     ap₂ (λ (a b : Bool). a && not b) (sym ((tuple_decides k xs).1 is))
-    (e ∙ ap (λ (l : List Edge). accepts k l good ws m 0 0) rows ∙ ap (λ (n : ℕ). accepts k es good ws n 0 0) long
+    (e ∙ ap (λ (n : ℕ). accepts k es good ws n 0 0) long
     ∙ accepts_same k es good ws xs (shortest xs) (λ i l q. next_same k (column ws i) (column xs i) es q (λ j h v u. ap (λ (a : ℕ). bit_and a (get_or (get_or es j none).guards v nothing).mask) (same v i l))) (shortest xs) 0 0 (omega arith))
 
 pub joined_only : (k : ℕ) (es : List Edge) (good : ℕ) (xs ys : Tuple) → IsTuple k xs → IsTuple k ys → shortest xs ≡ shortest ys → ((v i : ℕ) → i < shortest xs → letter xs v i ≡ letter ys v i) → breaks_test k es good xs ≡ breaks_test k es good ys
 joined_only k es good xs ys isx isy e same =
     let r = accepts k es good ys (shortest ys) 0 0 in
-    sym (by_word k es es good xs ys (shortest ys) r isx refl (sym e) (λ v i l. sym (same v i l)) refl) ∙ by_word k es es good ys ys (shortest ys) r isy refl refl (λ v i l. refl) refl
+    sym (by_word k es good xs ys (shortest ys) r isx (sym e) (λ v i l. sym (same v i l)) refl) ∙ by_word k es good ys ys (shortest ys) r isy refl (λ v i l. refl) refl
 
 pub told : (k : ℕ) (es : List Edge) (good : ℕ) (xs : Tuple) (r : Bool) → r ≡ breaks_test k es good xs → record { same : r ≡ breaks_test k es good xs; exact : Decides r (Breaks k es good xs) }
 told k es good xs r e = record { same = e; exact = Decides-at r _ e (breaks_decides k es good xs) }
 
 -- ---- standing
 
-pub standing_decides : (k : ℕ) (es : List Edge) (S : ℕ) (s t : Session) (r : Bool) → S ≡ union k es → Decides r (StandsBy S S s t) → Decides r (StandsFor k es s t)
-standing_decides k es S s t r seen =
+-- standing by two sets that are both the signals asked for
+pub standing_decides : (k : ℕ) (es : List Edge) (S P Q : ℕ) (s t : Session) (r : Bool) → S ≡ union k es → P ≡ S → Q ≡ S → Decides r (StandsBy P Q s t) → Decides r (StandsFor k es s t)
+standing_decides k es S P Q s t r seen p q =
     Decides-like r
     (λ h. record {
       from = h.from;
       to = h.to;
       equally_long = h.equally_long;
-      agree = λ i l x look. (h.upright i l x (asked x look), h.inverted i l x (asked x look));
+      agree = λ i l x look. (h.upright i l x (asked p x look), h.inverted i l x (asked q x look));
     })
     (λ h. record {
       from = h.from;
       to = h.to;
       equally_long = h.equally_long;
-      upright = λ i l x o. (h.agree i l x (looked x o)).0;
-      inverted = λ i l x o. (h.agree i l x (looked x o)).1;
+      upright = λ i l x o. (h.agree i l x (looked p x o)).0;
+      inverted = λ i l x o. (h.agree i l x (looked q x o)).1;
     })
   where
-    asked : (x : ℕ) → Looks k es x → On S x
-    asked x look = subst (λ (m : ℕ). On m x) (sym seen) (looks_union k es x look)
+    asked : {M : ℕ} → M ≡ S → (x : ℕ) → Looks k es x → On M x
+    asked e x look = subst (λ (m : ℕ). On m x) (sym (e ∙ seen)) (looks_union k es x look)
 
-    looked : (x : ℕ) → On S x → Looks k es x
-    looked x o = union_looks k es x (subst (λ (m : ℕ). On m x) seen o)
+    looked : {M : ℕ} → M ≡ S → (x : ℕ) → On M x → Looks k es x
+    looked e x o = union_looks k es x (subst (λ (m : ℕ). On m x) (e ∙ seen) o)
 
-pub told_standing : (k : ℕ) (es : List Edge) (S : ℕ) (s t : Session) (r : Bool) → S ≡ union k es → Decides r (StandsBy S S s t)
+pub told_standing : (k : ℕ) (es : List Edge) (S P Q : ℕ) (s t : Session) (r : Bool) → S ≡ union k es → P ≡ S → Q ≡ S → Decides r (StandsBy P Q s t)
     → record { same : r ≡ stands_test S S s t; exact : Decides r (StandsFor k es s t) }
-told_standing k es S s t r seen d = record { same = same_from_decides _ _ d (stands_decides S S s t); exact = standing_decides k es S s t r seen d }
+told_standing k es S P Q s t r seen p q d = record {
+  same = same_from_decides _ _ d (stands_decides P Q s t) ∙ ap₂ (λ (m n : ℕ). stands_test m n s t) p q;
+  exact = standing_decides k es S P Q s t r seen p q d;
+}
 
 -- ---- a session that agrees with another can take its place
 
@@ -129,7 +133,7 @@ module _ (k : ℕ) (es : List Edge) (good S : ℕ) (seen : S ≡ union k es) whe
   automaton_judges = record {
     arity_is = refl;
     breaks_where = λ xs. breaks_decides k es good xs;
-    stands_where = λ s t. standing_decides k es S s t _ seen (stands_decides S S s t);
+    stands_where = λ s t. standing_decides k es S S S s t _ seen refl refl (stands_decides S S s t);
   }
 
   chain : (r s t : Session) → StandsFor k es r s → StandsFor k es s t → StandsFor k es r t

@@ -1,5 +1,5 @@
 -- Runs by tests, which the meaning of an automaton is made of. `IsAutomaton` says what they tell.
-use Rattle.std.specs.Prelude.{ℕ, zero, suc, ◌+◌, ◌^◌, ◌<◌, ◌≤◌, Bool, false, cond, not, ◌&&◌, List, [], ◌∷◌, length, Some, None, Option, ◌==◌, bit_and, bit_or, nat_eq, nat_le, nat_lt, slice_index, slice_index_or}
+use Rattle.std.specs.Prelude.{ℕ, zero, suc, ◌+◌, ◌^◌, ◌<◌, ◌≤◌, Bool, false, not, ◌&&◌, List, length, take, fold, find, Some, None, Option, option_map, ◌==◌, bit_and, bit_or, nat_eq, slice_index, slice_index_or}
 use Rattle.policy.specs.Sessions.{Letter, Tuple, on, shortest}
 use Rattle.policy.specs.Testing.{all_below, tuple_test}
 use Rattle.automaton.specs.declared.edge.Edge.{Edge}
@@ -15,8 +15,7 @@ fits_test k at e q = e.from == q && all_below k (λ v. nat_eq (bit_and (at v) (s
 
 -- the state that the first fitting edge enters
 abbrev pub next_state : ℕ → List Edge → (ℕ → Letter) → ℕ → Option ℕ
-next_state k [] at q = None
-next_state k (e ∷ es) at q = cond (fits_test k at e q) (Some e.to) (next_state k es at q)
+next_state k es at q = option_map (λ e. e.to) (find (λ e. fits_test k at e q) es)
 
 abbrev pub go_on : Option ℕ → (ℕ → Bool) → Bool
 go_on None f = false
@@ -34,16 +33,11 @@ breaks_test k es good xs = tuple_test k xs && not (accepts k es good xs (shortes
 
 -- in the first n places
 abbrev pub or_below : ℕ → List Guard → ℕ
-or_below zero gs = 0
-or_below (suc n) gs = bit_or (slice_index_or gs n nothing).mask (or_below n gs)
+or_below n gs = fold (λ a g. bit_or a g.mask) 0 (take n gs)
 
--- in k places of all edges, and those of a set
-abbrev pub union_from : ℕ → ℕ → List Edge → ℕ
-union_from k S [] = S
-union_from k S (e ∷ es) = union_from k (bit_or S (or_below k e.guards)) es
-
+-- in k places of all edges
 abbrev pub union : ℕ → List Edge → ℕ
-union k es = union_from k 0 es
+union k es = fold (λ a e. bit_or a (or_below k e.guards)) 0 es
 
 -- ---- the making
 
@@ -51,7 +45,3 @@ abbrev pub InRange : ℕ → ℕ → ℕ → List Edge → Type 0
 InRange k n good es =
     (1 ≤ k) × (k ≤ 4) × (1 ≤ n) × (n ≤ 16) × (good < 2 ^ n) × (length es ≤ 64)
     × ((j : ℕ) → j < length es → ((slice_index_or es j none).from < n) × ((slice_index_or es j none).to < n))
-
-unfoldable pub automaton_test : ℕ → ℕ → ℕ → List Edge → Bool
-automaton_test k n good es =
-    nat_le 1 k && (nat_le k 4 && (nat_le 1 n && (nat_le n 16 && (nat_lt good (2 ^ n) && (nat_le (length es) 64 && all_below (length es) (λ j. nat_lt (slice_index_or es j none).from n && nat_lt (slice_index_or es j none).to n))))))

@@ -1,8 +1,9 @@
-ghost use Rattle.std.specs.Prelude.{◌≡◌, true};
+ghost use Rattle.std.specs.Prelude.{◌≡◌};
 ghost use Rattle.fixed_vec.specs.Items.{items_of};
-ghost use Rattle.automaton.specs.Testing.{automaton_test, union};
+ghost use Rattle.automaton.specs.Testing.{InRange, union};
 
 mod methods;
+mod run;
 
 use crate::edge::Edge;
 use fixed_vec::FixedVec;
@@ -20,6 +21,6 @@ pub struct Automaton {
     good: u16,
     edges: FixedVec<Edge, 64>,
     signals: u32,
-    ghost sound: { automaton_test places states good (items_of edges) ≡ true },
+    ghost sound: { InRange places states good (items_of edges) },
     ghost seen: { signals ≡ union places (items_of edges) },
 }

@@ -4,7 +4,6 @@
 mod automaton;
 mod edge;
 mod range;
-mod run;
 mod signals;
 
 pub use automaton::Automaton;

@@ -1,72 +1,39 @@
-//! The run of an automaton over a joined word.
-ghost use Rattle.std.specs.Prelude.{◌≡◌, ℕ, ◌<◌, ◌≤◌, length, Decides, slice_index_or};
+ghost use Rattle.std.specs.Prelude.{◌≡◌, ℕ, length};
 ghost use Rattle.policy.specs.Sessions.{on, sessions};
-ghost use Rattle.automaton.specs.Runs.{none, Shows};
-ghost use Rattle.automaton.specs.Testing.{shown, fits_test, next_state, accepts};
+ghost use Rattle.automaton.specs.Automata.{edges_of};
+ghost use Rattle.automaton.specs.Testing.{accepts, go_on, next_state, shown};
 
-use crate::edge::{Edge, Guard};
-use policy::letters_at;
+use crate::automaton::Automaton;
+use policy::{JoinedWord, is_on};
 
-/// Whether the letter of each of the first places meets its guard.
-fn shows(guards: &[Guard; 4], places: usize, letters: &[u32; 4]) -> bool
-    requires { places ≤ 4 }
-    ensures { Decides result (Shows places (shown letters.now) guards.now) }
-{
-    for place in 0..places {
-        if letters[place] & guards[place].mask != guards[place].value {
-            return false;
-        }
+impl Automaton {
+    /// The state that the first fitting edge enters, if one fits.
+    fn next_state(&self, state: u8, letters: &[u32]) -> Option<u8>
+        ensures { result ≡ next_state (length letters.now) (edges_of self.now) (shown letters.now) state }
+    {
+        self.edges
+            .as_slice()
+            .iter()
+            .find(|edge| edge.fits(state, letters))
+            .map(|edge| edge.to)
     }
-    true
-}
 
-/// Whether an edge fits in a state where the places show these letters.
-fn fits(edge: &Edge, state: u8, places: usize, letters: &[u32; 4]) -> bool
-    requires { places ≤ 4 }
-    ensures { result ≡ fits_test places (shown letters.now) edge.now state }
-{
-    edge.from == state && shows(&edge.guards, places, letters)
-}
-
-/// The state that the first fitting edge enters, if one fits.
-fn next_state(edges: &[Edge], state: u8, places: usize, letters: &[u32; 4]) -> Option<u8>
-    requires { places ≤ 4 }
-    ensures { result ≡ next_state places edges.now (shown letters.now) state }
-{
-    for edge in edges {
-        if fits(edge, state, places, letters) {
-            return Some(edge.to);
+    /// The state in which the run over a joined word ends, if an edge fits at each step.
+    fn last_state(&self, word: &JoinedWord) -> Option<u8>
+        ensures { (good : ℕ) → accepts self.now.places (edges_of self.now) good (sessions word.now.places) word.now.steps 0 0 ≡ go_on result (on good) }
+    {
+        let mut state = 0;
+        for step in 0..word.len() {
+            state = self.next_state(state, &word.letters_at(step)[..self.places])?;
         }
+        Some(state)
     }
-    None
-}
 
-/// Whether a state is one of the good ones.
-fn is_good(good: u16, state: u8) -> bool
-    requires { state < 16 }
-    ensures { result ≡ on good state }
-{
-    (good >> state) & 1 == 1
-}
-
-/// Whether the run over the steps of a joined word ends in a good state.
-pub(crate) fn accepted(
-    edges: &[Edge],
-    good: u16,
-    places: usize,
-    word: &[&[u32]; 4],
-    steps: usize,
-) -> bool
-    requires few { places ≤ 4 }
-    requires states { (j : ℕ) → j < length edges.now → (slice_index_or edges.now j none).to < 16 }
-    ensures { result ≡ accepts places edges.now good (sessions word.now) steps 0 0 }
-{
-    let mut state = 0;
-    for step in 0..steps {
-        match next_state(edges, state, places, &letters_at(word, step)) {
-            Some(entered) => state = entered,
-            None => return false,
-        }
+    /// Whether the run over a joined word ends in a good state.
+    pub(crate) fn accepts(&self, word: &JoinedWord) -> bool
+        ensures { result ≡ accepts self.now.places (edges_of self.now) self.now.good (sessions word.now.places) word.now.steps 0 0 }
+    {
+        self.last_state(word)
+            .is_some_and(|state| is_on(self.good as u32, state))
     }
-    is_good(good, state)
 }

@@ -8,10 +8,9 @@ ghost use Rattle.automaton.specs.Lawful;
 use crate::automaton::Automaton;
 use crate::edge::{Edge, Guard};
 use crate::range::{OutOfRange, in_range};
-use crate::run::accepted;
 use crate::signals::signals_of;
 use fixed_vec::FixedVec;
-use policy::{Policy, is_tuple, joined, stands_by, steps};
+use policy::{JoinedWord, Policy, Signals, is_tuple};
 
 /// What an unused row of an automaton holds.
 const UNUSED: Edge = Edge {
@@ -40,7 +39,7 @@ impl Automaton {
         }
         let signals = signals_of(edges, places);
         let mut rows = FixedVec::new(UNUSED);
-        rows.extend(edges);
+        rows.extend(edges).unwrap();
         Ok(Automaton {
             places,
             states,
@@ -64,17 +63,13 @@ impl Policy for Automaton {
         ensures same { result ≡ (automaton_means self.now).breaks (sessions tuple.now) }
         ensures exact { Decides result (Breaks self.now.places (edges_of self.now) self.now.good (sessions tuple.now)) }
     {
-        if !is_tuple(tuple, self.places) {
-            return false;
-        }
-        let edges = self.edges.as_slice();
-        !accepted(edges, self.good, self.places, &joined(tuple), steps(tuple))
+        is_tuple(tuple, self.places) && !self.accepts(&JoinedWord::new(tuple))
     }
 
     fn stands_for(&self, s: &[u32], t: &[u32]) -> bool
         ensures same { result ≡ (automaton_means self.now).stands s.now t.now }
         ensures exact { Decides result (StandsFor self.now.places (edges_of self.now) s.now t.now) }
     {
-        stands_by(self.signals, self.signals, s, t)
+        Signals::both(self.signals).stands_for(s, t)
     }
 }

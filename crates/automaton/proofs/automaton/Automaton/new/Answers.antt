@@ -1,11 +1,8 @@
-use Rattle.std.proofs.Common.{◌≡◌, true, List, sym, refl, subst}
+use Rattle.std.proofs.Common.{rules, ◌≡◌, refl}
 use Rattle.fixed_vec.specs.Items.{items_of}
-use Rattle.fixed_vec.proofs.Room.{filled}
 use Rattle.std.proofs.lemmas.Bool.Decides.{not_from_Decides}
-use Rattle.automaton.specs.declared.edge.Edge.{Edge}
-use Rattle.automaton.specs.Testing.{automaton_test, union}
 use Rattle.automaton.specs.Judged.{joined_only, kept_judges}
-use Rattle.automaton.specs.Ranges.{range_decides, range_fits, fits_range}
+use Rattle.automaton.specs.Ranges.{range_fits, fits_range}
 use Rattle.automaton.specs.Running.{breaks_by_failing, one_run}
 use Rattle.automaton.proofs.automaton.Automaton.new.Goals as goal
 
@@ -13,23 +10,12 @@ pub returns-then-not-in_range-clause-made : goal.returns-then-not-in_range-claus
 returns-then-not-in_range-clause-made c =
     λ fits. not_from_Decides c.in_range.result c.in_range.ensures c.if-not-in_range.true (fits_range c.args.places c.args.states c.args.good c.args.edges.now fits)
 
-pub invariant_of-result : goal.invariant_of-result
-invariant_of-result c =
-    let k = c.args.places in
-    let es = c.args.edges.now in
-    let range = c.in_range.ensures.0 c.if-not-in_range.false in
-    let held = filled (items_of c.new-rows.result) es 64 c.new-rows.ensures range.5 c.extend.ensures.taken c.extend.ensures.after in
-    record {
-      sound = subst (λ (l : List Edge). automaton_test k c.args.states c.args.good l ≡ true) (sym held) ((range_decides k c.args.states c.args.good es).1 range);
-      seen = subst (λ (l : List Edge). c.signals_of-signals.result ≡ union k l) (sym held) c.signals_of-signals.ensures;
-    }
-
 pub returns-clause-made : goal.returns-clause-made
 returns-clause-made c =
     let k = c.args.places in
     let es = c.args.edges.now in
     let range = c.in_range.ensures.0 c.if-not-in_range.false in
-    let held = filled (items_of c.new-rows.result) es 64 c.new-rows.ensures range.5 c.extend.ensures.taken c.extend.ensures.after in
+    let held : items_of c.extend.new.self ≡ es = search rules in
     record {
       fits = range_fits k c.args.states c.args.good es range;
       states_kept = refl;

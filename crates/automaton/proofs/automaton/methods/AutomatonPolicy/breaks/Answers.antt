@@ -1,36 +1,23 @@
-use Rattle.std.proofs.Common.{ℕ, ◌<◌, ◌≤◌, List, length, get_or, sym, ◌∙◌, subst, arith}
+use Rattle.std.proofs.Common.{◌≤◌, length, ◌∙◌, arith}
 use Rattle.std.proofs.lemmas.List.{length-map}
 use Rattle.policy.proofs.Places.{word_letters}
-use Rattle.policy.specs.Sessions.{IsTuple, sessions}
-use Rattle.automaton.specs.declared.edge.Edge.{Edge}
+use Rattle.policy.specs.Sessions.{sessions}
 use Rattle.automaton.specs.Automata.{edges_of}
-use Rattle.automaton.specs.Runs.{none}
 use Rattle.automaton.specs.Judged.{told, no_tuple, by_word}
-use Rattle.automaton.specs.Ranges.{range_decides}
 use Rattle.automaton.proofs.automaton.methods.AutomatonPolicy.breaks.Goals as goal
 
-pub returns-then-not-is_tuple : goal.returns-then-not-is_tuple
-returns-then-not-is_tuple c =
+pub returns-then-is_tuple : goal.returns-then-is_tuple
+returns-then-is_tuple c =
     let a = c.args.self.now in
     let xs = sessions c.args.tuple.now in
-    told a.places (edges_of a) a.good xs _ (no_tuple a.places (edges_of a) a.good xs c.is_tuple.result c.is_tuple.ensures c.if-not-is_tuple.true)
-
-pub accepted-requires : goal.accepted-requires
-accepted-requires c =
-    let a = c.args.self.now in
-    let range = (range_decides a.places a.states a.good (edges_of a)).0 a.sound in
-    record {
-      few = range.1;
-      states = subst (λ (es : List Edge). (j : ℕ) → j < length es → (get_or es j none).to < 16) (sym c.as_slice-edges.ensures.value) (λ j l. omega (arith, range.3, (range.6 j l).1));
-    }
-
-pub returns : goal.returns
-returns c =
-    let a = c.args.self.now in
-    let xs = sessions c.args.tuple.now in
-    let range = (range_decides a.places a.states a.good (edges_of a)).0 a.sound in
-    let is : IsTuple a.places xs = c.is_tuple.ensures.0 c.if-not-is_tuple.false in
-    let few : length xs ≤ 4 = omega (arith, is.0, range.1) in
+    let w = c.new.result in
+    let is = c.is_tuple.ensures.0 c.if-is_tuple.true in
+    let few : length xs ≤ 4 = omega (arith, is.0, a.sound.1) in
     told a.places (edges_of a) a.good xs _
-    (by_word a.places (edges_of a) c.as_slice-edges.result.now a.good xs (sessions c.joined.result) c.steps.result c.accepted.result is c.as_slice-edges.ensures.value c.steps.ensures
-    (word_letters xs (sessions c.joined.result) few (length-map c.joined.result _ ∙ c.joined.ensures.four) c.joined.ensures.each) c.accepted.ensures)
+    (by_word a.places (edges_of a) a.good xs (sessions w.places) w.steps c.accepts.result is c.new.ensures.steps
+    (word_letters xs (sessions w.places) few (length-map w.places _ ∙ c.new.ensures.four) c.new.ensures.each) c.accepts.ensures)
+
+pub returns-else-is_tuple-clause-same : goal.returns-else-is_tuple-clause-same
+returns-else-is_tuple-clause-same c =
+    let a = c.args.self.now in
+    c.if-is_tuple.false ∙ no_tuple a.places (edges_of a) a.good (sessions c.args.tuple.now) c.is_tuple.result c.is_tuple.ensures c.if-is_tuple.false

@@ -5,4 +5,4 @@ use Rattle.automaton.proofs.automaton.methods.AutomatonPolicy.stands_for.Goals a
 pub returns : goal.returns
 returns c =
     let self = c.args.self.now in
-    told_standing self.places (edges_of self) self.signals c.args.s.now c.args.t.now c.stands_by.result self.seen c.stands_by.ensures
+    told_standing self.places (edges_of self) self.signals _ _ c.args.s.now c.args.t.now c.stands_for.result self.seen (cc) (cc) c.stands_for.ensures

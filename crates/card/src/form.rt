@@ -152,6 +152,7 @@ impl<'a> Reader<'a> {
         ensures { (ds : List Due) (vs : List ℕ) → from self.old (due.names ∷ ds) (start ∷ vs) room ≡ after form_report result (λ m. after_step m.0 self.new (due.making head.Near ds (m.1 ∷ vs) room (drafted self.new.draft))) }
     {
         let mut mask = start;
+        // No chain is plainer: a name, the bracket and any other token each end a turn in their own way.
         loop {
             let spot = self.next()?;
             match spot.token {

@@ -1,11 +1,10 @@
 //! The entries of the library.
 #![tactic(auto)]
 
-mod decimal;
 mod entry;
 mod line;
 
-pub use entry::portbook_card_line;
+pub use entry::{NoRoom, write_card_line};
 
 #[cfg(test)]
 mod tests;

@@ -1,24 +1,12 @@
-use crate::portbook_card_line;
-
-/// Whether each byte is a full stop.
-fn all_dots(bytes: &[u8]) -> bool {
-    for b in bytes {
-        if *b != b'.' {
-            return false;
-        }
-    }
-    true
-}
+use crate::{NoRoom, write_card_line};
 
 /// Whether the card's line is this one, at the front of a buffer whose rest stays.
 fn line_is(card: &[u8], wanted: &[u8]) -> bool {
     let mut out = [b'.'; 64];
-    let written = portbook_card_line(card, &mut out);
-    if written < 0 {
-        return false;
+    match write_card_line(card, &mut out) {
+        Ok(end) => &out[0..end] == wanted && out[end..].iter().all(|b| *b == b'.'),
+        Err(NoRoom) => false,
     }
-    let end = written as usize;
-    &out[0..end] == wanted && all_dots(&out[end..])
 }
 
 #[test]
@@ -36,6 +24,6 @@ fn nine_sessions(rt: HostRuntime) {
 #[test]
 fn little_room(rt: HostRuntime) {
     let mut out = [b'.'; 63];
-    assert_eq!(rt; portbook_card_line(b"(sessions 9)", &mut out), -13);
-    assert!(rt; all_dots(&out));
+    assert_eq!(rt; write_card_line(b"(sessions 9)", &mut out), Err(NoRoom));
+    assert!(rt; out.iter().all(|b| *b == b'.'));
 }

@@ -9,18 +9,22 @@ use std::io::{Read, Write};
 /// How many bytes of the file are read: one more than a card may have.
 const MOST_BYTES: u64 = 4097;
 
+/// Room for all that is read, and to see that nothing follows.
+const ROOM: usize = 8192;
+
 /// The first bytes of a file. There are none where it cannot be opened, and where it cannot be read
-/// to the end they are those that were read.
-fn load(rt: &HostRuntime, path: &str) -> Vec<u8> {
-    let mut bytes = Vec::new(rt.alloc());
+/// to the end they are those that were read. The room is made first, so that reading does not fail
+/// for want of memory.
+fn load(rt: &HostRuntime, path: &str) -> io::Result<Vec<u8>> {
+    let mut bytes = Vec::with_capacity(rt.alloc(), ROOM)?;
     if let Ok(file) = File::open(rt, path) {
         let _ = file.take(MOST_BYTES).read_to_end(&mut bytes);
     }
-    bytes
+    Ok(bytes)
 }
 
 fn main(rt: HostRuntime) -> io::Result<()> {
-    let card = load(&rt, "card.txt");
+    let card = load(&rt, "card.txt")?;
     let mut line = [0; 64];
     let length = write_card_line(&card, &mut line).unwrap();
     rt.stdout().write_all(&line[0..length])

@@ -1,3 +1,5 @@
+pub mod Exchanges
 pub mod Movings
 pub mod Pastes
+pub mod Places
 pub mod Same

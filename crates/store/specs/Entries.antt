@@ -1,16 +1,17 @@
 -- What a store holds, and the law that every store keeps.
-use Rattle.std.specs.Prelude.{ℕ, suc, ◌≤◌, Bool, false, cond, ◌&&◌, ◌||◌, List, [], ◌∷◌, ◌++◌, length, drop, Some, None, sum_by, Option, ◌==◌, nat_le}
-use Rattle.std.specs.List.{AllByRecursion, slice_get}
+use Rattle.std.specs.Prelude.{ℕ, suc, ◌≤◌, Bool, cond, ◌&&◌, List, [], ◌∷◌, ◌++◌, length, drop, Some, None, sum_by, Option, nat_eq, nat_le}
+use Rattle.std.specs.List.{AllByRecursion, list_any, slice_get}
+pub use Rattle.store.specs.declared.limits.Limits.{Limits}
+use Rattle.store.specs.declared.session.Session.{Session}
 
 -- a kept session: its number and its letters
 pub record Entry : Type 0 where
   pub number : ℕ
   pub letters : List ℕ
 
--- at most `sessions` are kept, with at most `letters` letters in all
-pub record Limits : Type 0 where
-  pub sessions : ℕ
-  pub letters : ℕ
+-- the entry of a session to be kept
+abbrev pub entry_of : Session → Entry
+entry_of session = record { number = session.number; letters = session.letters.now }
 
 abbrev pub letters_in : List Entry → ℕ
 letters_in es = sum_by (λ e. length e.letters) es
@@ -18,14 +19,14 @@ letters_in es = sum_by (λ e. length e.letters) es
 abbrev pub fits : Limits → List Entry → Bool
 fits b es = nat_le (length es) b.sessions && nat_le (letters_in es) b.letters
 
+-- whether the place p is among the places
 abbrev pub mentions : ℕ → List ℕ → Bool
-mentions p [] = false
-mentions p (q ∷ qs) = p == q || mentions p qs
+mentions p ps = list_any (λ q. nat_eq q p) ps
 
--- the entries from the place p on whose places are not named
-abbrev pub without_from : ℕ → List ℕ → List Entry → List Entry
+-- the elements from the place p on whose places are not named
+abbrev pub without_from : {X : Type 0} → ℕ → List ℕ → List X → List X
 without_from p ps [] = []
-without_from p ps (e ∷ es) = cond (mentions p ps) (without_from (suc p) ps es) (e ∷ without_from (suc p) ps es)
+without_from p ps (x ∷ xs) = cond (mentions p ps) (without_from (suc p) ps xs) (x ∷ without_from (suc p) ps xs)
 
 -- the named entries are gone, the others keep their order, and the new one stands last
 abbrev pub exchanged : List ℕ → List Entry → Entry → List Entry
@@ -47,6 +48,13 @@ read_at es place room = read (slice_get es place) room
 abbrev pub written : Option (List ℕ) → List ℕ → List ℕ
 written None buffer = buffer
 written (Some s) buffer = s ++ drop (length s) buffer
+
+-- limits that a store may have
+pub record InRange (b : Limits) : Type 0 where
+  pub some_session : 1 ≤ b.sessions
+  pub few_sessions : b.sessions ≤ 64
+  pub some_letters : 128 ≤ b.letters
+  pub few_letters : b.letters ≤ 8192
 
 -- the law of a store: its limits are in range, and its entries are within them
 pub record Within (b : Limits) (es : List Entry) : Type 0 where

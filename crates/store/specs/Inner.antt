@@ -1,2 +1,1 @@
-pub mod Arenas
-pub mod Leaving
+pub mod Kept

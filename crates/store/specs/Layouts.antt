@@ -1,31 +1,36 @@
 -- How sessions lie in a store's memory.
-use Rattle.std.specs.Prelude.{ℕ, List, [], ◌∷◌, take, drop, vec_items}
-use Rattle.fixed_vec.specs.Items.{items_of}
-use Rattle.store.specs.declared.arena.Arena.{Arena}
-use Rattle.store.specs.declared.layout.Header.{Header}
-use Rattle.store.specs.declared.layout.Layout.{Layout}
-use Rattle.store.specs.declared.layout.Layout.TheVariants.{Slots, Packed}
-use Rattle.store.specs.Entries.{Entry, Limits}
+use Rattle.std.specs.Prelude.{◌≡◌, ℕ, ◌*◌, List, [], ◌∷◌, ◌++◌, length, take, drop, Some, vec_items, sum_by}
+use Rattle.std.specs.List.{slice_get}
+use Rattle.store.specs.declared.header.Header.{Header}
+use Rattle.store.specs.Entries.{Entry, letters_in}
+use Rattle.store.specs.Memory.{Memory}
 
--- how many letters on from a session's start the next one starts
-abbrev pub pitch : Layout → Header → ℕ
-pitch Slots h = 128
-pitch Packed h = h.len
+-- how many letters sessions have
+abbrev pub letters_of : List Header → ℕ
+letters_of hs = sum_by (λ h. h.len) hs
+
+-- how many letters of the memory they take, where the next one starts `pitch` letters on from the
+-- start of a session of so many letters
+abbrev pub room_of : (ℕ → ℕ) → List Header → ℕ
+room_of pitch hs = sum_by (λ h. pitch h.len) hs
 
 -- the session that begins the memory
 abbrev pub front : Header → List ℕ → Entry
 front h memory = record { number = h.number; letters = take h.len memory }
 
 -- the sessions that lie in the memory one after another
-abbrev pub spread : (Header → ℕ) → List Header → List ℕ → List Entry
-spread f [] memory = []
-spread f (h ∷ hs) memory = front h memory ∷ spread f hs (drop (f h) memory)
+abbrev pub spread : (ℕ → ℕ) → List Header → List ℕ → List Entry
+spread pitch [] memory = []
+spread pitch (h ∷ hs) memory = front h memory ∷ spread pitch hs (drop (pitch h.len) memory)
 
-abbrev pub headers_in : Arena → List Header
-headers_in a = items_of a.headers
+abbrev pub joined : List Entry → List ℕ
+joined [] = []
+joined (e ∷ es) = e.letters ++ joined es
 
-abbrev pub entries_in : Layout → Arena → List Entry
-entries_in layout a = spread (pitch layout) (headers_in a) (vec_items a.memory)
+-- where the letters of the entries lie: each entry at the start of its place's slot,
+abbrev pub LieInSlots : List Entry → Memory → Type 0
+LieInSlots es memory = (i : ℕ) (e : Entry) → slice_get es i ≡ Some e → e.letters ≡ take (length e.letters) (drop (128 * i) (vec_items memory))
 
-abbrev pub limits_in : Arena → Limits
-limits_in a = record { sessions = a.sessions; letters = a.room }
+-- or end to end from the front
+abbrev pub LieEndToEnd : List Entry → Memory → Type 0
+LieEndToEnd es memory = joined es ≡ take (letters_in es) (vec_items memory)

@@ -1,9 +1,10 @@
 pub mod Entries
+pub mod Headers
 pub mod Layouts
 pub mod Limits
 pub mod Memory
 pub mod Stores
 pub mod Inner
-pub mod Arenas
+pub mod Laws
 pub mod Leaves
 pub mod Spreads

@@ -1,57 +1,46 @@
-ghost use Rattle.std.specs.Prelude.{◌≡◌, ◌≤◌, length, take};
-ghost use Rattle.store.specs.Layouts.{pitch};
-ghost use Rattle.store.specs.Inner.Leaving.{letters_of, room_of};
+ghost use Rattle.std.specs.Prelude.{◌≡◌, ℕ, ◌≤◌, List, length, take, vec_items, vec_len};
+ghost use Rattle.std.specs.List.{AllByRecursion};
+ghost use Rattle.store.specs.Entries.{Entry, Limits, InRange};
+ghost use Rattle.store.specs.Headers.{headers_in};
+ghost use Rattle.store.specs.Layouts.{letters_of, room_of, spread};
+ghost use Rattle.store.specs.Memory.{Memory};
+ghost use Rattle.store.specs.declared.header.Header.{Header};
 
-use crate::limits::LONGEST;
+use crate::headers::Headers;
+use crate::limits::Limits;
 
-/// How sessions lie in the memory: each at the start of a slot of 128 letters, or end to end.
-#[derive(Clone, Copy)]
-pub(crate) enum Layout {
-    Slots,
-    Packed,
-}
+/// How sessions lie in a store's memory, one after another from its front, and the limits of a store
+/// over so many letters. It is for this crate alone to implement.
+///
+/// Each layout owes the laws that no session reaches into the next one, that its limits are in range
+/// and inside the memory, that sessions within them have room there, and that the letters lie as it
+/// says.
+pub trait Layout {
+    ghost pitch: { ℕ → ℕ };
 
-/// The number of a kept session, and how many letters it has.
-#[derive(Clone, Copy)]
-pub(crate) struct Header {
-    pub(crate) number: u32,
-    pub(crate) len: usize,
-}
+    ghost limits: { ℕ → Limits };
 
-/// What stands in the room for headers that is not used.
-pub(crate) const UNUSED: Header = Header { number: 0, len: 0 };
+    ghost lie: { List Entry → Memory → Type 0 };
 
-/// How many letters on from the session's start the next one starts.
-pub(crate) fn step(layout: Layout, header: Header) -> usize
-    ensures { result ≡ pitch layout header }
-{
-    match layout {
-        Layout::Slots => LONGEST,
-        Layout::Packed => header.len,
-    }
-}
+    /// How many letters on from the start of a session of so many the next one starts.
+    fn pitch(len: usize) -> usize
+        ensures { result ≡ pitch len };
 
-/// Where the session at a place starts.
-pub(crate) fn start(layout: Layout, headers: &[Header], place: usize) -> usize
-    requires kept { place ≤ length headers.now }
-    requires few { length headers.now ≤ 64 }
-    requires small { letters_of headers.now ≤ 8192 }
-    ensures { result ≡ room_of layout (take place headers.now) }
-{
-    match layout {
-        Layout::Slots => LONGEST * place,
-        Layout::Packed => total(&headers[0..place]),
-    }
-}
+    /// Where the session at a place starts.
+    fn start(headers: &Headers, place: usize) -> usize
+        ensures { result ≡ room_of pitch (take place (headers_in headers.now)) };
 
-/// How many letters the sessions have.
-fn total(headers: &[Header]) -> usize
-    requires { letters_of headers.now ≤ 8192 }
-    ensures { result ≡ letters_of headers.now }
-{
-    let mut letters = 0;
-    for header in headers {
-        letters += header.len;
-    }
-    letters
+    /// The limits of a store over memory of so many letters.
+    fn limits(letters: usize) -> Limits
+        ensures { result ≡ limits letters };
+
+    ghost wide: { (n : ℕ) → n ≤ 128 → n ≤ pitch n };
+
+    ghost in_range: { (n : ℕ) → 128 ≤ n → InRange (limits n) };
+
+    ghost inside: { (n : ℕ) → (limits n).letters ≤ n };
+
+    ghost room: { (n : ℕ) (hs : List Header) → length hs ≤ (limits n).sessions → letters_of hs ≤ (limits n).letters → room_of pitch hs ≤ (limits n).letters };
+
+    ghost lies: { (hs : List Header) (m : Memory) → AllByRecursion (λ h. h.len ≤ 128) hs → room_of pitch hs ≤ length (vec_items m) → lie (spread pitch hs (vec_items m)) m };
 }

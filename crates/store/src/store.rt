@@ -1,7 +1,9 @@
-ghost use Rattle.std.specs.Prelude.{◌≡◌, false, List, [], length, if◌then◌else◌};
+ghost use Rattle.std.specs.Prelude.{◌≡◌, List, [], length, if◌then◌else◌, is_ok, OnErr};
 ghost use Rattle.std.specs.Option.{option_map};
 ghost use Rattle.std.specs.List.{slice_get};
-ghost use Rattle.store.specs.Entries.{Entry, Limits, Within, exchanged, takes, read_at, written};
+ghost use Rattle.store.specs.Entries.{Entry, Limits, Within, entry_of, exchanged, takes, read_at, written};
+
+use crate::session::{NoRoom, Session};
 
 /// A store of sessions: a list of entries, each a session's number and its letters, within two
 /// limits that never change.
@@ -23,14 +25,14 @@ pub trait Store {
         ensures count { result ≡ option_map length (read_at (entries self.now) place (length buffer.old)) }
         ensures copy { buffer.new ≡ written (read_at (entries self.now) place (length buffer.old)) buffer.old };
 
-    /// The entries at the places leave, and the new one stands last. False, and nothing has changed,
-    /// where the new one has over 128 letters or the list would pass a limit. A place without an
+    /// The entries at the places leave, and the session stands last. No room, and nothing has
+    /// changed, where it has over 128 letters or the list would pass a limit. A place without an
     /// entry is ignored, and one named twice counts once.
-    fn exchange(&mut self, places: &[usize], number: u32, letters: &[u32]) -> bool
-        ensures test { result ≡ takes (limits self.old) places.now (entries self.old) (record { number = number; letters = letters.now }) }
-        ensures after { entries self.new ≡ (if result then exchanged places.now (entries self.old) (record { number = number; letters = letters.now }) else entries self.old) }
+    fn exchange(&mut self, places: &[usize], session: Session) -> Result<(), NoRoom>
+        ensures test { is_ok result ≡ takes (limits self.old) places.now (entries self.old) (entry_of session.entry) }
+        ensures after { entries self.new ≡ (if is_ok result then exchanged places.now (entries self.old) (entry_of session.entry) else entries self.old) }
         ensures stays { limits self.new ≡ limits self.old }
-        ensures refused { result ≡ false → self.new ≡ self.old };
+        ensures refused { OnErr result (self.new ≡ self.old) };
 
     /// Leaves no entry.
     fn clear(&mut self)

@@ -8,7 +8,7 @@ pub struct TooShort {
 }
 
 impl TooShort {
-    /// The number of the refusal.
+    /// The number of the refusal. It is a plain number, as the customer's list has it.
     pub fn number(&self) -> u8
         ensures { result ≡ short_number }
     {

@@ -1,13 +1,13 @@
 //! Automata that look random.
-use crate::compare::compare;
-use crate::judge::Judge;
-use crate::random::Random;
+use crate::compare::{Asking, Comparison};
+use crate::random::{Random, Source};
 use crate::rows::Rows;
 use crate::sessions::Lists;
 use crate::tally::{Tallies, Tally};
-use automaton::{Automaton, Edge, Guard};
-use std::alloc::{AllocError, Global};
-use std::io;
+use crate::trial::Trial;
+use automaton::{Edge, Guard};
+use std::alloc::AllocError;
+use std::{fmt, io};
 
 /// How many automata are judged by.
 const AUTOMATA: u32 = 6000;
@@ -22,161 +22,186 @@ const OUT_OF_RANGE: u8 = 8;
 const SIGNALS: u8 = 3;
 
 /// How many signals change in the lists.
-pub const CHANGING: u8 = 5;
+pub(crate) const CHANGING: u8 = 5;
 
-/// A guard that asks for few signals or none, and now and then for a value that no letter has.
-fn guard(random: &mut Random) -> Guard {
-    if random.one_in(2) {
-        return Guard { mask: 0, value: 0 };
-    }
-    let mut mask = random.signal(SIGNALS);
-    if random.one_in(3) {
-        mask |= random.signal(SIGNALS);
-    }
-    let letter = random.letter();
-    let value = if random.one_in(30) {
-        letter
-    } else {
-        letter & mask
-    };
-    Guard { mask, value }
-}
+/// A guard that every letter meets.
+const OPEN: Guard = Guard { mask: 0, value: 0 };
 
-/// A row between two of so many states.
-fn edge(random: &mut Random, states: u8) -> Edge {
-    Edge {
-        from: random.below(states),
-        to: random.below(states),
-        guards: [guard(random), guard(random), guard(random), guard(random)],
-    }
-}
-
-/// A row that every letter fits.
-fn open_edge(random: &mut Random, from: u8, states: u8) -> Edge {
-    Edge {
-        from,
-        to: random.below(states),
-        guards: [Guard { mask: 0, value: 0 }; 4],
-    }
-}
-
-/// So many rows, and after them mostly one for each state that every letter fits.
-fn edges(heap: Global, random: &mut Random, rows: u8, states: u8) -> Result<Vec<Edge>, AllocError> {
-    let mut edges = Vec::new(heap);
-    for _ in 0..rows {
-        edges.push(edge(random, states))?;
-    }
-    if !random.one_in(4) {
-        for from in 0..states {
-            edges.push(open_edge(random, from, states))?;
+impl Random {
+    /// A guard that asks for few signals or none, and now and then for a value that no letter has.
+    fn guard(&mut self) -> Guard {
+        if self.one_in(2) {
+            return OPEN;
         }
-    }
-    Ok(edges)
-}
-
-/// The good states among so many.
-fn good_states(random: &mut Random, states: u8) -> u16 {
-    let mut good = 0;
-    for state in 0..states.min(16) {
-        if random.one_in(2) {
-            good |= 1 << state;
+        let mut mask = self.signal(SIGNALS);
+        if self.one_in(3) {
+            mask |= self.signal(SIGNALS);
         }
-    }
-    good
-}
-
-/// The rows of an automaton over so many places.
-pub fn rows(heap: Global, random: &mut Random, places: u8) -> Result<Rows, AllocError> {
-    let states = random.below(5).saturating_add(1);
-    let count = random.below(24);
-    Ok(Rows {
-        places,
-        states,
-        good: good_states(random, states),
-        edges: edges(heap, random, count, states)?,
-    })
-}
-
-/// Rows with numbers near the limits and past them.
-fn odd_rows(heap: Global, random: &mut Random) -> Result<Rows, AllocError> {
-    let states = if random.one_in(2) {
-        random.below(19)
-    } else {
-        16
-    };
-    let count = if random.one_in(4) {
-        60 + random.below(8)
-    } else {
-        random.below(8)
-    };
-    let past = states.saturating_add(random.below(2));
-    let good = good_states(random, past);
-    let among = if random.one_in(8) {
-        states.saturating_add(1)
-    } else {
-        states
-    };
-    let mut edges = Vec::new(heap);
-    for _ in 0..count {
-        edges.push(edge(random, among))?;
-    }
-    Ok(Rows {
-        places: random.below(6),
-        states,
-        good,
-        edges,
-    })
-}
-
-/// The automaton of rows, or the number of its refusal.
-pub fn automaton_of(rows: &Rows) -> Result<Automaton, u8> {
-    match Automaton::new(
-        rows.places as usize,
-        rows.states as usize,
-        rows.good,
-        rows.edges.as_slice(),
-    ) {
-        Ok(automaton) => Ok(automaton),
-        Err(refusal) => Err(refusal.number()),
-    }
-}
-
-/// Judges by automata, and prints what came of it.
-pub fn compare_automata(rt: &HostRuntime, random: &mut Random) -> io::Result<()> {
-    let heap = rt.alloc();
-    let mut tallies = Tallies::NONE;
-    for round in 0..AUTOMATA {
-        let places = random.below(4).saturating_add(1);
-        let rows = rows(heap, random, places)?;
-        let longest = if round % 8 == 0 { 128 } else { 8 };
-        let lists = Lists::new(heap, random, longest, CHANGING)?;
-        match automaton_of(&rows) {
-            Ok(automaton) => compare(rt, &automaton, &rows, &lists, random, &mut tallies)?,
-            Err(number) => println!(rt; "difference: an automaton is refused with {number}")?,
-        }
-    }
-    println!(rt; "{AUTOMATA} automata")?;
-    tallies.print(rt, "  by rows")
-}
-
-/// Tries numbers near the limits, and prints which were refused.
-pub fn compare_numbers(rt: &HostRuntime, random: &mut Random) -> io::Result<()> {
-    let heap = rt.alloc();
-    let mut tally = Tally::NONE;
-    for _ in 0..NUMBERS {
-        let rows = odd_rows(heap, random)?;
-        let refused = match automaton_of(&rows) {
-            Ok(_) => false,
-            Err(number) => number == OUT_OF_RANGE,
+        let letter = self.letter();
+        let value = if self.one_in(30) {
+            letter
+        } else {
+            letter & mask
         };
-        if tally.count(refused, !rows.are_right()) {
-            println!(rt; "difference: refused {refused}")?;
-            rows.show(rt)?;
+        Guard { mask, value }
+    }
+
+    /// A row between two of so many states.
+    fn edge(&mut self, states: u8) -> Edge {
+        Edge {
+            from: self.below(states),
+            to: self.below(states),
+            guards: [self.guard(), self.guard(), self.guard(), self.guard()],
         }
     }
-    let refused = tally.yes;
-    let differences = tally.differences;
-    println!(rt;
-        "{NUMBERS} automata with numbers near the limits: {refused} refused with {OUT_OF_RANGE}, {differences} differences"
-    )
+
+    /// A row from a state that every letter fits.
+    fn open_edge(&mut self, from: u8, states: u8) -> Edge {
+        Edge {
+            from,
+            to: self.below(states),
+            guards: [OPEN; 4],
+        }
+    }
+
+    /// The good states among so many.
+    fn good_states(&mut self, states: u8) -> u16 {
+        (self.some_of(states.min(16), 2) & 0xffff) as u16
+    }
+}
+
+impl Source {
+    /// So many rows between so many states.
+    fn edges(&mut self, rows: u8, states: u8) -> Result<Vec<Edge>, AllocError> {
+        let random = &mut self.random;
+        (0..rows).map(|_| random.edge(states)).collect(self.heap)
+    }
+
+    /// The rows of an automaton over so many places: after the first mostly one for each state that
+    /// every letter fits.
+    pub(crate) fn rows(&mut self, places: u8) -> Result<Rows, AllocError> {
+        let states = self.random.below(5).saturating_add(1);
+        let count = self.random.below(24);
+        let good = self.random.good_states(states);
+        let mut edges = self.edges(count, states)?;
+        if !self.random.one_in(4) {
+            for from in 0..states {
+                edges.push(self.random.open_edge(from, states))?;
+            }
+        }
+        Ok(Rows {
+            places,
+            states,
+            good,
+            edges,
+        })
+    }
+
+    /// Rows with numbers near the limits and past them.
+    fn odd_rows(&mut self) -> Result<Rows, AllocError> {
+        let random = &mut self.random;
+        let states = if random.one_in(2) {
+            random.below(19)
+        } else {
+            16
+        };
+        let count = if random.one_in(4) {
+            60 + random.below(8)
+        } else {
+            random.below(8)
+        };
+        let past = states.saturating_add(random.below(2));
+        let good = random.good_states(past);
+        let among = if random.one_in(8) {
+            states.saturating_add(1)
+        } else {
+            states
+        };
+        let edges = self.edges(count, among)?;
+        Ok(Rows {
+            places: self.random.below(6),
+            states,
+            good,
+            edges,
+        })
+    }
+}
+
+/// Automata, and what came of them.
+#[derive(Clone, Copy, Default)]
+pub(crate) struct Automata {
+    tallies: Tallies,
+}
+
+impl Trial for Automata {
+    fn rounds(&self) -> u32 {
+        AUTOMATA
+    }
+
+    fn round(&mut self, rt: &HostRuntime, source: &mut Source, round: u32) -> io::Result<()> {
+        let places = source.random.places();
+        let rows = source.rows(places)?;
+        let longest = if round % 8 == 0 { 128 } else { 8 };
+        let lists = Lists::new(source, longest, CHANGING)?;
+        match rows.automaton() {
+            Ok(automaton) => {
+                let mut asking = Asking {
+                    rt,
+                    lists: &lists,
+                    random: &mut source.random,
+                };
+                let comparison = Comparison {
+                    policy: &automaton,
+                    judge: &rows,
+                };
+                comparison.run(&mut asking, &mut self.tallies)
+            }
+            Err(refusal) => {
+                println!(rt;
+                    "difference: an automaton is refused with {}",
+                    refusal.number()
+                )
+            }
+        }
+    }
+}
+
+impl fmt::Display for Automata {
+    fn fmt<W: fmt::Write>(&self, f: &mut fmt::Formatter<W>) -> fmt::Result {
+        writeln!(f, "{AUTOMATA} automata")?;
+        write!(f, "  by rows: {}", self.tallies)
+    }
+}
+
+/// Numbers near the limits of automata, and which were refused.
+#[derive(Clone, Copy, Default)]
+pub(crate) struct Numbers {
+    refusals: Tally,
+}
+
+impl Trial for Numbers {
+    fn rounds(&self) -> u32 {
+        NUMBERS
+    }
+
+    fn round(&mut self, rt: &HostRuntime, source: &mut Source, _round: u32) -> io::Result<()> {
+        let rows = source.odd_rows()?;
+        let refused = rows
+            .automaton()
+            .is_err_and(|refusal| refusal.number() == OUT_OF_RANGE);
+        if self.refusals.count(refused, !rows.are_right()) {
+            print!(rt; "difference: refused {refused}\n{rows}")?;
+        }
+        Ok(())
+    }
+}
+
+impl fmt::Display for Numbers {
+    fn fmt<W: fmt::Write>(&self, f: &mut fmt::Formatter<W>) -> fmt::Result {
+        writeln!(
+            f,
+            "{NUMBERS} automata with numbers near the limits: {} refused with {OUT_OF_RANGE}, {} differences",
+            self.refusals.yes, self.refusals.differences
+        )
+    }
 }

@@ -1,106 +1,75 @@
 //! Forms as the text of cards.
-use crate::form::{Binary, Form, Unary};
+use crate::form::Form;
 use crate::letters::{SIGNALS, is_on};
 use std::fmt;
+use syntax::{Binary, Unary};
 
-/// A rule, and how many places and signals its card declares.
+/// A rule, and how many places and signals its card declares; printed as its card.
 #[derive(Drop)]
-pub struct Ruling {
-    pub places: u8,
-    pub signals: u8,
-    pub form: Form,
+pub(crate) struct Ruling {
+    pub(crate) places: u8,
+    pub(crate) signals: u8,
+    pub(crate) form: Form,
 }
 
-/// The word of what is said of one form.
-fn unary_word(said: Unary) -> &'static str {
-    match said {
-        Unary::Not => "not",
-        Unary::Next => "next",
-        Unary::Always => "always",
-    }
-}
+/// The signals of a set, printed by name, each after a space.
+#[derive(Clone, Copy)]
+struct Names(u32);
 
-/// The word of what is said of two forms.
-fn binary_word(said: Binary) -> &'static str {
-    match said {
-        Binary::And => "and",
-        Binary::Or => "or",
-        Binary::Until => "until",
-        Binary::Iff => "iff",
-        Binary::Weak => "weak",
-    }
-}
-
-/// Writes the names of the signals of a set, each after a space.
-fn write_names<W: fmt::Write>(signals: u32, f: &mut fmt::Formatter<W>) -> fmt::Result {
-    for signal in 0..SIGNALS {
-        if is_on(signals, signal) {
+impl fmt::Display for Names {
+    fn fmt<W: fmt::Write>(&self, f: &mut fmt::Formatter<W>) -> fmt::Result {
+        for signal in (0..SIGNALS).filter(|signal| is_on(self.0, *signal)) {
             write!(f, " s{signal}")?;
         }
+        Ok(())
     }
-    Ok(())
 }
 
-/// Writes the form of two places that are near each other.
-fn write_near<W: fmt::Write>(
-    first: u8,
-    second: u8,
-    limit: u8,
-    signals: u32,
-    f: &mut fmt::Formatter<W>,
-) -> fmt::Result {
-    let first = first.saturating_add(1);
-    let second = second.saturating_add(1);
-    write!(f, "(near {first} {second} {limit}")?;
-    write_names(signals, f)?;
-    write!(f, ")")
+/// A place, printed as cards count it: from 1.
+#[derive(Clone, Copy)]
+struct Place(u8);
+
+impl fmt::Display for Place {
+    fn fmt<W: fmt::Write>(&self, f: &mut fmt::Formatter<W>) -> fmt::Result {
+        write!(f, "{}", self.0.saturating_add(1))
+    }
 }
 
-/// Writes the form of a place and a signal.
-fn write_at<W: fmt::Write>(place: u8, signal: u8, f: &mut fmt::Formatter<W>) -> fmt::Result {
-    let place = place.saturating_add(1);
-    write!(f, "(at {place} s{signal})")
-}
-
-impl Form {
-    /// Writes the form.
-    fn write<W: fmt::Write>(&self, f: &mut fmt::Formatter<W>) -> fmt::Result {
+impl fmt::Display for Form {
+    fn fmt<W: fmt::Write>(&self, f: &mut fmt::Formatter<W>) -> fmt::Result {
         match self {
             Form::True => write!(f, "(true)"),
-            Form::At { place, signal } => write_at(*place, *signal, f),
+            Form::At { place, signal } => write!(f, "(at {} s{signal})", Place(*place)),
             Form::Near {
                 first,
                 second,
                 limit,
                 signals,
-            } => write_near(*first, *second, *limit, *signals, f),
-            Form::One(said, part) => {
-                let word = unary_word(*said);
-                write!(f, "({word} ")?;
-                part.write(f)?;
-                write!(f, ")")
-            }
-            Form::Two(said, first, second) => {
-                let word = binary_word(*said);
-                write!(f, "({word} ")?;
-                first.write(f)?;
-                write!(f, " ")?;
-                second.write(f)?;
-                write!(f, ")")
-            }
+            } => write!(
+                f,
+                "(near {} {} {limit}{})",
+                Place(*first),
+                Place(*second),
+                Names(*signals)
+            ),
+            Form::One(Unary::Not, part) => write!(f, "(not {part})"),
+            Form::One(Unary::Next, part) => write!(f, "(next {part})"),
+            Form::One(Unary::Always, part) => write!(f, "(always {part})"),
+            Form::Two(Binary::And, first, second) => write!(f, "(and {first} {second})"),
+            Form::Two(Binary::Or, first, second) => write!(f, "(or {first} {second})"),
+            Form::Two(Binary::Until, first, second) => write!(f, "(until {first} {second})"),
+            Form::Two(Binary::Iff, first, second) => write!(f, "(iff {first} {second})"),
+            Form::Two(Binary::Weak, first, second) => write!(f, "(weak {first} {second})"),
         }
     }
 }
 
 impl fmt::Display for Ruling {
     fn fmt<W: fmt::Write>(&self, f: &mut fmt::Formatter<W>) -> fmt::Result {
-        let places = self.places;
-        writeln!(f, "(sessions {places})")?;
+        writeln!(f, "(sessions {})", self.places)?;
         for signal in 0..self.signals {
             writeln!(f, "(signal s{signal})")?;
         }
-        write!(f, "(rule ")?;
-        self.form.write(f)?;
-        writeln!(f, ")")
+        writeln!(f, "(rule {})", self.form)
     }
 }

@@ -6,6 +6,7 @@ use crate::letters::are_sessions;
 use crate::random::Random;
 use crate::sessions::Lists;
 use crate::tally::Tallies;
+use crate::word::InARow;
 use policy::Policy;
 use std::io;
 
@@ -15,109 +16,112 @@ const QUESTIONS: u8 = 6;
 /// The most places of a tuple that is asked about: one more than a policy may have.
 const MOST_PLACES: u8 = 5;
 
-/// Prints lists of letters in a row.
-pub fn print_lists(rt: &HostRuntime, lists: &[&[u32]]) -> io::Result<()> {
-    for list in lists {
-        print!(rt; " {list:?}")?;
-    }
-    Ok(())
+/// Where differences are printed, and what questions are made of.
+#[derive(Drop)]
+pub(crate) struct Asking<'a> {
+    pub(crate) rt: &'a HostRuntime,
+    pub(crate) lists: &'a Lists,
+    pub(crate) random: &'a mut Random,
 }
 
-/// Prints a case in which the engine and the other judge differ.
-fn print_difference<J: Judge>(
-    rt: &HostRuntime,
-    judge: &J,
-    question: &str,
-    lists: &[&[u32]],
-    engine: bool,
-) -> io::Result<()> {
-    print!(rt; "difference: {question}")?;
-    print_lists(rt, lists)?;
-    println!(rt; "? The engine says {engine}.")?;
-    judge.show(rt)
-}
-
-/// How many places a tuple has: now and then another number than the judge's.
-fn tuple_len(random: &mut Random, places: u8) -> usize
-    ensures { result ≤ 5 }
-{
-    let len = if random.one_in(16) {
-        random.below(MOST_PLACES + 1)
-    } else {
-        places
-    };
-    len.min(MOST_PLACES) as usize
-}
-
-/// Asks both whether a tuple of some of the lists breaks the policy.
-fn compare_breaks<P: Policy, J: Judge>(
-    rt: &HostRuntime,
-    policy: &P,
-    judge: &J,
-    lists: &Lists,
-    random: &mut Random,
-    tallies: &mut Tallies,
-) -> io::Result<()> {
-    let five = [
-        lists.any(random),
-        lists.any(random),
-        lists.any(random),
-        lists.any(random),
-        lists.any(random),
-    ];
-    let tuple = &five[0..tuple_len(random, judge.places())];
-    let engine = policy.breaks(tuple);
-    if !are_sessions(tuple, judge.places()) {
-        tallies.no_tuples = tallies.no_tuples.saturating_add(1);
+impl<'a> Asking<'a> {
+    /// One of the lists.
+    fn list(&mut self) -> &'a [u32] {
+        self.lists.any(self.random)
     }
-    if tallies.broken.count(engine, judge.is_broken(tuple)) {
-        print_difference(rt, judge, "breaks", tuple, engine)?;
-    }
-    Ok(())
-}
 
-/// Asks both whether one of the lists stands for another.
-fn compare_stands<P: Policy, J: Judge>(
-    rt: &HostRuntime,
-    policy: &P,
-    judge: &J,
-    lists: &Lists,
-    random: &mut Random,
-    tallies: &mut Tallies,
-) -> io::Result<()> {
-    let s = lists.any(random);
-    let t = lists.any(random);
-    let engine = policy.stands_for(s, t);
-    if engine && s != t {
-        tallies.unlike = tallies.unlike.saturating_add(1);
-    }
-    if tallies.standing.count(engine, judge.stands(s, t)) {
-        print_difference(rt, judge, "stands for", &[s, t], engine)?;
-    }
-    Ok(())
-}
-
-/// Asks both for the number of places, and about some tuples and pairs of the lists.
-pub fn compare<P: Policy, J: Judge>(
-    rt: &HostRuntime,
-    policy: &P,
-    judge: &J,
-    lists: &Lists,
-    random: &mut Random,
-    tallies: &mut Tallies,
-) -> io::Result<()> {
-    let before = *tallies;
-    if tallies
-        .places
-        .count(policy.arity() == judge.places() as usize, true)
+    /// How many places a tuple has: now and then another number than the judge's.
+    fn tuple_len(&mut self, places: u8) -> usize
+        ensures { result ≤ 5 }
     {
-        println!(rt; "difference: the number of places")?;
-        judge.show(rt)?;
+        let len = if self.random.one_in(16) {
+            self.random.below(MOST_PLACES + 1)
+        } else {
+            places
+        };
+        len.min(MOST_PLACES) as usize
     }
-    for _ in 0..QUESTIONS {
-        compare_breaks(rt, policy, judge, lists, random, tallies)?;
-        compare_stands(rt, policy, judge, lists, random, tallies)?;
+}
+
+/// A policy of the engine beside a second judge.
+#[derive(Drop)]
+pub(crate) struct Comparison<'a, P, J> {
+    pub(crate) policy: &'a P,
+    pub(crate) judge: &'a J,
+}
+
+impl<'a, P: Policy, J: Judge> Comparison<'a, P, J> {
+    /// Prints a case in which the two differ.
+    fn print_difference(
+        &self,
+        rt: &HostRuntime,
+        question: &str,
+        lists: &[&[u32]],
+        engine: bool,
+    ) -> io::Result<()> {
+        let judge = self.judge;
+        println!(rt;
+            "difference: {question}{}? The engine says {engine}.",
+            InARow(lists)
+        )?;
+        print!(rt; "{judge}")
     }
-    tallies.note_mixed(before);
-    Ok(())
+
+    /// Asks both for the number of places.
+    fn ask_places(&self, rt: &HostRuntime, tallies: &mut Tallies) -> io::Result<()> {
+        let judge = self.judge;
+        let alike = self.policy.arity() == judge.places() as usize;
+        if tallies.places.count(alike, true) {
+            println!(rt; "difference: the number of places")?;
+            print!(rt; "{judge}")?;
+        }
+        Ok(())
+    }
+
+    /// Asks both whether a tuple of some of the lists breaks the policy.
+    fn ask_breaks(&self, asking: &mut Asking<'_>, tallies: &mut Tallies) -> io::Result<()> {
+        let places = self.judge.places();
+        let five = [
+            asking.list(),
+            asking.list(),
+            asking.list(),
+            asking.list(),
+            asking.list(),
+        ];
+        let tuple = &five[..asking.tuple_len(places)];
+        if !are_sessions(tuple, places) {
+            tallies.no_tuples = tallies.no_tuples.saturating_add(1);
+        }
+        let engine = self.policy.breaks(tuple);
+        if tallies.broken.count(engine, self.judge.is_broken(tuple)) {
+            self.print_difference(asking.rt, "breaks", tuple, engine)?;
+        }
+        Ok(())
+    }
+
+    /// Asks both whether one of the lists stands for another.
+    fn ask_stands(&self, asking: &mut Asking<'_>, tallies: &mut Tallies) -> io::Result<()> {
+        let s = asking.list();
+        let t = asking.list();
+        let engine = self.policy.stands_for(s, t);
+        if engine && s != t {
+            tallies.unlike = tallies.unlike.saturating_add(1);
+        }
+        if tallies.standing.count(engine, self.judge.stands(s, t)) {
+            self.print_difference(asking.rt, "stands for", &[s, t], engine)?;
+        }
+        Ok(())
+    }
+
+    /// Asks both for the number of places, and about some tuples and pairs of the lists.
+    pub(crate) fn run(&self, asking: &mut Asking<'_>, tallies: &mut Tallies) -> io::Result<()> {
+        let before = *tallies;
+        self.ask_places(asking.rt, tallies)?;
+        for _ in 0..QUESTIONS {
+            self.ask_breaks(asking, tallies)?;
+            self.ask_stands(asking, tallies)?;
+        }
+        tallies.note_mixed(before);
+        Ok(())
+    }
 }

@@ -1,27 +1,10 @@
 //! The forms of rules, as trees.
 use std::alloc::{AllocError, Global};
-
-/// What is said of one form.
-#[derive(Clone, Copy)]
-pub enum Unary {
-    Not,
-    Next,
-    Always,
-}
-
-/// What is said of two forms.
-#[derive(Clone, Copy)]
-pub enum Binary {
-    And,
-    Or,
-    Until,
-    Iff,
-    Weak,
-}
+use syntax::{Binary, Unary};
 
 /// A form, with each shorthand as a form of its own. A place is counted from 0.
 #[derive(Drop)]
-pub enum Form {
+pub(crate) enum Form {
     True,
     At {
         place: u8,
@@ -39,12 +22,17 @@ pub enum Form {
 
 impl Form {
     /// The form that says something of this one.
-    pub fn under(self, heap: Global, unary: Unary) -> Result<Form, AllocError> {
+    pub(crate) fn under(self, heap: Global, unary: Unary) -> Result<Form, AllocError> {
         Ok(Form::One(unary, Box::new(heap, self)?))
     }
 
     /// The form that says something of this one and another.
-    pub fn with(self, heap: Global, binary: Binary, other: Form) -> Result<Form, AllocError> {
+    pub(crate) fn with(
+        self,
+        heap: Global,
+        binary: Binary,
+        other: Form,
+    ) -> Result<Form, AllocError> {
         let first = Box::new(heap, self)?;
         Ok(Form::Two(binary, first, Box::new(heap, other)?))
     }

@@ -1,15 +1,16 @@
 //! Forms that look random.
-use crate::form::{Binary, Form, Unary};
-use crate::random::Random;
-use std::alloc::{AllocError, Global};
+use crate::form::Form;
+use crate::random::{Random, Source};
+use std::alloc::AllocError;
+use syntax::{Binary, Unary};
 
 /// What a form may name and hold: its places and signals, and how many of the forms that look over
 /// all steps stand inside one another.
 #[derive(Clone, Copy)]
-pub struct Bounds {
-    pub places: u8,
-    pub signals: u8,
-    pub loops: u8,
+pub(crate) struct Bounds {
+    pub(crate) places: u8,
+    pub(crate) signals: u8,
+    pub(crate) loops: u8,
 }
 
 impl Bounds {
@@ -20,77 +21,66 @@ impl Bounds {
             ..self
         }
     }
-}
 
-/// Some of the first signals, at least one.
-fn signal_set(random: &mut Random, signals: u8) -> u32 {
-    let mut set = random.signal(signals);
-    for signal in 0..signals.min(32) {
-        if random.one_in(3) {
-            set |= 1 << signal;
+    /// Some of the signals, at least one.
+    fn signal_set(self, random: &mut Random) -> u32 {
+        random.signal(self.signals) | random.some_of(self.signals, 3)
+    }
+
+    /// A form with no part.
+    fn leaf(self, random: &mut Random) -> Form {
+        match random.below(9) {
+            0 => Form::True,
+            1 | 2 | 3 => Form::Near {
+                first: random.below(self.places),
+                second: random.below(self.places),
+                limit: random.below(self.signals / 3 + 2),
+                signals: self.signal_set(random),
+            },
+            _ => Form::At {
+                place: random.below(self.places),
+                signal: random.below(self.signals),
+            },
         }
     }
-    set
-}
 
-/// A form with no part.
-fn leaf(random: &mut Random, bounds: Bounds) -> Form {
-    match random.below(9) {
-        0 => Form::True,
-        1 | 2 | 3 => Form::Near {
-            first: random.below(bounds.places),
-            second: random.below(bounds.places),
-            limit: random.below(bounds.signals / 3 + 2),
-            signals: signal_set(random, bounds.signals),
-        },
-        _ => Form::At {
-            place: random.below(bounds.places),
-            signal: random.below(bounds.signals),
-        },
-    }
-}
-
-/// What is said of one form, and the bounds of that.
-fn unary(random: &mut Random, bounds: Bounds) -> (Unary, Bounds) {
-    match random.below(6) {
-        0 | 1 if bounds.loops > 0 => (Unary::Always, bounds.inside_loop()),
-        2 | 3 => (Unary::Next, bounds),
-        _ => (Unary::Not, bounds),
-    }
-}
-
-/// What is said of two forms, and the bounds of those.
-fn binary(random: &mut Random, bounds: Bounds) -> (Binary, Bounds) {
-    match random.below(9) {
-        0 | 1 if bounds.loops > 0 => (Binary::Until, bounds.inside_loop()),
-        2 | 3 if bounds.loops > 0 => (Binary::Weak, bounds.inside_loop()),
-        4 => (Binary::Iff, bounds),
-        5 | 6 => (Binary::Or, bounds),
-        _ => (Binary::And, bounds),
-    }
-}
-
-/// A form within the bounds, that goes so deep at most.
-pub fn grow(
-    heap: Global,
-    random: &mut Random,
-    bounds: Bounds,
-    depth: u8,
-) -> Result<Form, AllocError> {
-    if depth == 0 {
-        return Ok(leaf(random, bounds));
-    }
-    match random.below(7) {
-        0 => Ok(leaf(random, bounds)),
-        1 | 2 | 3 => {
-            let (said, inner) = unary(random, bounds);
-            grow(heap, random, inner, depth - 1)?.under(heap, said)
+    /// What is said of one form, and the bounds of that.
+    fn unary(self, random: &mut Random) -> (Unary, Bounds) {
+        match random.below(6) {
+            0 | 1 if self.loops > 0 => (Unary::Always, self.inside_loop()),
+            2 | 3 => (Unary::Next, self),
+            _ => (Unary::Not, self),
         }
-        _ => {
-            let (said, inner) = binary(random, bounds);
-            let first = grow(heap, random, inner, depth - 1)?;
-            let second = grow(heap, random, inner, depth - 1)?;
-            first.with(heap, said, second)
+    }
+
+    /// What is said of two forms, and the bounds of those.
+    fn binary(self, random: &mut Random) -> (Binary, Bounds) {
+        match random.below(9) {
+            0 | 1 if self.loops > 0 => (Binary::Until, self.inside_loop()),
+            2 | 3 if self.loops > 0 => (Binary::Weak, self.inside_loop()),
+            4 => (Binary::Iff, self),
+            5 | 6 => (Binary::Or, self),
+            _ => (Binary::And, self),
+        }
+    }
+
+    /// A form within the bounds, that goes so deep at most.
+    pub(crate) fn grow(self, source: &mut Source, depth: u8) -> Result<Form, AllocError> {
+        if depth == 0 {
+            return Ok(self.leaf(&mut source.random));
+        }
+        match source.random.below(7) {
+            0 => Ok(self.leaf(&mut source.random)),
+            1 | 2 | 3 => {
+                let (said, inner) = self.unary(&mut source.random);
+                inner.grow(source, depth - 1)?.under(source.heap, said)
+            }
+            _ => {
+                let (said, inner) = self.binary(&mut source.random);
+                let first = inner.grow(source, depth - 1)?;
+                let second = inner.grow(source, depth - 1)?;
+                first.with(source.heap, said, second)
+            }
         }
     }
 }

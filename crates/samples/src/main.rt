@@ -19,13 +19,16 @@ mod rows;
 mod rules;
 mod sessions;
 mod tally;
+mod trial;
+mod word;
 
-use automata::{compare_automata, compare_numbers};
-use pairs::compare_pairs;
+use automata::{Automata, Numbers};
+use pairs::Pairs;
 use played::play;
-use random::Random;
-use rules::{Kind, compare_rules};
+use random::{Random, Source};
+use rules::{Kind, Rules};
 use std::io;
+use trial::run;
 
 /// The kinds of rules: the longer the sessions, the fewer loops stand inside one another.
 const KINDS: [Kind; 3] = [
@@ -51,11 +54,14 @@ const KINDS: [Kind; 3] = [
 
 fn main(rt: HostRuntime) -> io::Result<()> {
     play(&rt)?;
-    let mut random = Random::new(1);
+    let mut source = Source {
+        heap: rt.alloc(),
+        random: Random::new(1),
+    };
     for kind in KINDS {
-        compare_rules(&rt, &mut random, kind)?;
+        run(&rt, &mut source, Rules::new(kind))?;
     }
-    compare_automata(&rt, &mut random)?;
-    compare_numbers(&rt, &mut random)?;
-    compare_pairs(&rt, &mut random)
+    run(&rt, &mut source, Automata::default())?;
+    run(&rt, &mut source, Numbers::default())?;
+    run(&rt, &mut source, Pairs::default())
 }

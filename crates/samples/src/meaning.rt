@@ -1,90 +1,59 @@
 //! What forms mean, by their quantifiers over the steps.
-use crate::form::{Binary, Form, Unary};
-use crate::letters::{are_sessions, common_steps, differing, is_on, letter};
+use crate::form::Form;
+use crate::letters::{differing, is_on};
+use crate::word::Word;
+use syntax::{Binary, Unary};
 
 impl Form {
-    /// Whether the form holds at the step `i` of the first `m` steps of a tuple.
-    #[cycle(each_holds_some_until_weak)]
-    fn holds(&self, tuple: &[&[u32]], m: usize, i: usize) -> bool {
+    /// Whether the form holds at the step `i` of a word.
+    #[cycle(holds)]
+    pub(crate) fn holds(&self, word: Word<'_>, i: usize) -> bool {
         match self {
             Form::True => true,
-            Form::At { place, signal } => is_on(letter(tuple, *place, i), *signal),
+            Form::At { place, signal } => is_on(word.letter(*place, i), *signal),
             Form::Near {
                 first,
                 second,
                 limit,
                 signals,
-            } => differing(
-                *signals,
-                letter(tuple, *first, i),
-                letter(tuple, *second, i),
-            ) <= *limit as u32,
-            Form::One(unary, f) => match unary {
-                Unary::Not => !f.holds(tuple, m, i),
-                Unary::Next => {
-                    let later = i.saturating_add(1);
-                    later < m && f.holds(tuple, m, later)
-                }
-                Unary::Always => f.each(tuple, m, i, m),
-            },
-            Form::Two(binary, f, g) => match binary {
-                Binary::And => f.holds(tuple, m, i) && g.holds(tuple, m, i),
-                Binary::Or => f.holds(tuple, m, i) || g.holds(tuple, m, i),
-                Binary::Iff => f.holds(tuple, m, i) == g.holds(tuple, m, i),
-                Binary::Until => f.until(g, tuple, m, i),
-                Binary::Weak => f.weak(g, tuple, m, i),
-            },
+            } => differing(*signals, word.letter(*first, i), word.letter(*second, i))
+                <= *limit as usize,
+            Form::One(Unary::Not, f) => !f.holds(word, i),
+            Form::One(Unary::Next, f) => {
+                let later = i.saturating_add(1);
+                later < word.steps && f.holds(word, later)
+            }
+            Form::One(Unary::Always, f) => f.each(word, i, word.steps),
+            Form::Two(Binary::And, f, g) => f.holds(word, i) && g.holds(word, i),
+            Form::Two(Binary::Or, f, g) => f.holds(word, i) || g.holds(word, i),
+            Form::Two(Binary::Iff, f, g) => f.holds(word, i) == g.holds(word, i),
+            Form::Two(Binary::Until, f, g) => f.until(g, word, i),
+            Form::Two(Binary::Weak, f, g) => f.weak(g, word, i),
         }
     }
 
     /// Whether the form holds at each step from `i` to the one before `j`.
-    #[cycle(each_holds_some_until_weak)]
-    fn each(&self, tuple: &[&[u32]], m: usize, i: usize, j: usize) -> bool {
-        for l in i..j {
-            if !self.holds(tuple, m, l) {
-                return false;
-            }
-        }
-        true
+    #[cycle(holds)]
+    fn each(&self, word: Word<'_>, i: usize, j: usize) -> bool {
+        (i..j).all(|l| self.holds(word, l))
     }
 
     /// Whether the form holds at some step from `i` to the one before `j`.
-    #[cycle(each_holds_some_until_weak)]
-    fn some(&self, tuple: &[&[u32]], m: usize, i: usize, j: usize) -> bool {
-        for l in i..j {
-            if self.holds(tuple, m, l) {
-                return true;
-            }
-        }
-        false
+    #[cycle(holds)]
+    fn some(&self, word: Word<'_>, i: usize, j: usize) -> bool {
+        (i..j).any(|l| self.holds(word, l))
     }
 
     /// Whether there is a step from `i` on where `other` holds, with the form at each step from `i`
     /// to the one before it.
-    #[cycle(each_holds_some_until_weak)]
-    fn until(&self, other: &Form, tuple: &[&[u32]], m: usize, i: usize) -> bool {
-        for j in i..m {
-            if other.holds(tuple, m, j) && self.each(tuple, m, i, j) {
-                return true;
-            }
-        }
-        false
+    #[cycle(holds)]
+    fn until(&self, other: &Form, word: Word<'_>, i: usize) -> bool {
+        (i..word.steps).any(|j| other.holds(word, j) && self.each(word, i, j))
     }
 
     /// Whether at each step from `i` on the form holds, or `other` has held at some step from `i` on.
-    #[cycle(each_holds_some_until_weak)]
-    fn weak(&self, other: &Form, tuple: &[&[u32]], m: usize, i: usize) -> bool {
-        for j in i..m {
-            if !self.holds(tuple, m, j) && !other.some(tuple, m, i, j + 1) {
-                return false;
-            }
-        }
-        true
-    }
-
-    /// Whether the lists are sessions for so many places, and the form does not hold at the first
-    /// step that they have in common.
-    pub fn is_broken(&self, places: u8, tuple: &[&[u32]]) -> bool {
-        are_sessions(tuple, places) && !self.holds(tuple, common_steps(tuple), 0)
+    #[cycle(holds)]
+    fn weak(&self, other: &Form, word: Word<'_>, i: usize) -> bool {
+        (i..word.steps).all(|j| self.holds(word, j) || other.some(word, i, j.saturating_add(1)))
     }
 }

@@ -1,16 +1,17 @@
 //! Pairs of a rule and an automaton.
-use crate::automata::{CHANGING, automaton_of, rows};
+use crate::automata::CHANGING;
 use crate::card_text::Ruling;
-use crate::compare::compare;
+use crate::compare::{Asking, Comparison};
 use crate::judge::Both;
-use crate::random::Random;
+use crate::random::Source;
 use crate::rows::Rows;
-use crate::rules::{Kind, ruling};
+use crate::rules::Kind;
 use crate::sessions::Lists;
 use crate::tally::{Tallies, Tally};
+use crate::trial::Trial;
 use automaton::Automaton;
-use policy::{Pair, Policy};
-use std::io;
+use policy::Pair;
+use std::{fmt, io};
 use table_policy::TablePolicy;
 
 /// How many pairs are made.
@@ -27,104 +28,104 @@ const KIND: Kind = Kind {
 /// The number of the refusal of two policies with unlike numbers of places.
 const UNLIKE: u8 = 9;
 
-/// What came of the pairs, of the parts that came back, and of the refusals.
-#[derive(Clone, Copy)]
-struct Results {
+/// Pairs, and what came of them, of the parts that came back, and of the refusals.
+#[derive(Clone, Copy, Default)]
+pub(crate) struct Pairs {
     pairs: Tallies,
     rules_back: Tallies,
     automata_back: Tallies,
     refusals: Tally,
 }
 
-/// Judges by a rule and an automaton as a pair, or by both as they come back.
-fn by_pair(
-    rt: &HostRuntime,
-    policy: TablePolicy,
-    automaton: Automaton,
-    both: &Both<'_, Ruling, Rows>,
-    lists: &Lists,
-    random: &mut Random,
-    results: &mut Results,
-) -> io::Result<()> {
-    let unlike = both.first.places != both.second.places;
-    match Pair::new(policy, automaton) {
-        Ok(pair) => {
-            if results.refusals.count(false, unlike) {
-                println!(rt; "difference: unlike policies are a pair")?;
+impl Pairs {
+    /// Judges by a rule and an automaton as a pair, or by both as they come back.
+    fn by_pair(
+        &mut self,
+        asking: &mut Asking<'_>,
+        policy: TablePolicy,
+        automaton: Automaton,
+        both: Both<'_, Ruling, Rows>,
+    ) -> io::Result<()> {
+        let rt = asking.rt;
+        let unlike = both.first.places != both.second.places;
+        match Pair::new(policy, automaton) {
+            Ok(pair) => {
+                if self.refusals.count(false, unlike) {
+                    println!(rt; "difference: unlike policies are a pair")?;
+                }
+                let comparison = Comparison {
+                    policy: &pair,
+                    judge: &both,
+                };
+                comparison.run(asking, &mut self.pairs)
             }
-            compare(rt, &pair, both, lists, random, &mut results.pairs)
-        }
-        Err(back) => {
-            if results
-                .refusals
-                .count(true, unlike && back.number() == UNLIKE)
-            {
-                println!(rt; "difference: like policies are refused, or with another number")?;
+            Err(back) => {
+                let expected = unlike && back.number() == UNLIKE;
+                if self.refusals.count(true, expected) {
+                    println!(rt; "difference: like policies are refused, or with another number")?;
+                }
+                let rule = Comparison {
+                    policy: &back.first,
+                    judge: both.first,
+                };
+                rule.run(asking, &mut self.rules_back)?;
+                let automaton = Comparison {
+                    policy: &back.second,
+                    judge: both.second,
+                };
+                automaton.run(asking, &mut self.automata_back)
             }
-            compare(
-                rt,
-                &back.first,
-                both.first,
-                lists,
-                random,
-                &mut results.rules_back,
-            )?;
-            compare(
-                rt,
-                &back.second,
-                both.second,
-                lists,
-                random,
-                &mut results.automata_back,
-            )
         }
     }
 }
 
-/// Judges by pairs, and prints what came of it.
-pub fn compare_pairs(rt: &HostRuntime, random: &mut Random) -> io::Result<()> {
-    let heap = rt.alloc();
-    let mut results = Results {
-        pairs: Tallies::NONE,
-        rules_back: Tallies::NONE,
-        automata_back: Tallies::NONE,
-        refusals: Tally::NONE,
-    };
-    for _ in 0..PAIRS {
-        let places = random.below(4).saturating_add(1);
-        let other = if random.one_in(4) {
-            random.below(4).saturating_add(1)
+impl Trial for Pairs {
+    fn rounds(&self) -> u32 {
+        PAIRS
+    }
+
+    fn round(&mut self, rt: &HostRuntime, source: &mut Source, _round: u32) -> io::Result<()> {
+        let places = source.random.places();
+        let other = if source.random.one_in(4) {
+            source.random.places()
         } else {
             places
         };
-        let ruling = ruling(heap, random, places, KIND)?;
-        let rows = rows(heap, random, other)?;
-        let lists = Lists::new(heap, random, KIND.longest, CHANGING)?;
-        if let Some(table) = ruling.form.table(heap, places)? {
-            if let Ok(automaton) = automaton_of(&rows) {
-                let both = Both {
-                    first: &ruling,
-                    second: &rows,
-                };
-                by_pair(
-                    rt,
-                    TablePolicy::new(table),
-                    automaton,
-                    &both,
-                    &lists,
-                    random,
-                    &mut results,
-                )?;
-            }
-        }
+        let ruling = KIND.ruling(source, places)?;
+        let rows = source.rows(other)?;
+        let lists = Lists::new(source, KIND.longest, CHANGING)?;
+        let Some(table) = ruling.form.table(source.heap, places)? else {
+            return Ok(());
+        };
+        let Ok(automaton) = rows.automaton() else {
+            return Ok(());
+        };
+        let mut asking = Asking {
+            rt,
+            lists: &lists,
+            random: &mut source.random,
+        };
+        let both = Both {
+            first: &ruling,
+            second: &rows,
+        };
+        self.by_pair(&mut asking, TablePolicy::new(table), automaton, both)
     }
-    let made = results.refusals.asked;
-    let refused = results.refusals.yes;
-    let differences = results.refusals.differences;
-    println!(rt;
-        "{made} pairs of a rule and an automaton: {refused} refused with {UNLIKE}, {differences} differences"
-    )?;
-    results.pairs.print(rt, "  pairs")?;
-    results.rules_back.print(rt, "  rules that came back")?;
-    results.automata_back.print(rt, "  automata that came back")
+}
+
+impl fmt::Display for Pairs {
+    fn fmt<W: fmt::Write>(&self, f: &mut fmt::Formatter<W>) -> fmt::Result {
+        let Tally {
+            asked,
+            yes,
+            differences,
+        } = self.refusals;
+        writeln!(
+            f,
+            "{asked} pairs of a rule and an automaton: {yes} refused with {UNLIKE}, {differences} differences"
+        )?;
+        write!(f, "  pairs: {}", self.pairs)?;
+        write!(f, "  rules that came back: {}", self.rules_back)?;
+        write!(f, "  automata that came back: {}", self.automata_back)
+    }
 }

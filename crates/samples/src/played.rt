@@ -1,12 +1,12 @@
 //! Samples, through cards read from their text.
 use crate::card_text::Ruling;
-use crate::compare::print_lists;
-use crate::form::{Binary, Form, Unary};
+use crate::form::Form;
 use crate::judge::Judge;
+use crate::word::InARow;
 use card::{Card, read};
 use policy::Policy;
-use std::alloc::{AllocError, Global};
 use std::io;
+use syntax::{Binary, Unary};
 use table_policy::TablePolicy;
 
 /// A card's policy, and its rule as a tree.
@@ -32,26 +32,19 @@ fn near(limit: u8, signals: u32) -> Form {
 }
 
 /// Reads a card and prints it; none where it is refused.
-fn read_sample(rt: &HostRuntime, card: &str, places: u8, form: Form) -> io::Result<Option<Sample>> {
+fn read_sample(rt: &HostRuntime, card: &str, ruling: Ruling) -> io::Result<Option<Sample>> {
     print!(rt; "{card}")?;
     match read(card.as_bytes()) {
         Ok(card) => {
-            let Card { names, table } = card;
-            let nodes = table.nodes().len();
-            println!(rt; "  {nodes} nodes")?;
-            let ruling = Ruling {
-                places,
-                signals: names.len().min(32) as u8,
-                form,
-            };
+            let Card { names: _, table } = card;
+            println!(rt; "  {} nodes", table.nodes().len())?;
             Ok(Some(Sample {
                 policy: TablePolicy::new(table),
                 ruling,
             }))
         }
         Err(fault) => {
-            let number = fault.report().number;
-            println!(rt; "  refused with {number}")?;
+            println!(rt; "  refused with {}", fault.report().number)?;
             Ok(None)
         }
     }
@@ -72,9 +65,10 @@ impl Sample {
     fn tuple(&self, rt: &HostRuntime, tuple: &[&[u32]]) -> io::Result<()> {
         let engine = broken_word(self.policy.breaks(tuple));
         let second = broken_word(self.ruling.is_broken(tuple));
-        print!(rt; " ")?;
-        print_lists(rt, tuple)?;
-        println!(rt; ": engine {engine}, second evaluator {second}")
+        println!(rt;
+            " {}: engine {engine}, second evaluator {second}",
+            InARow(tuple)
+        )
     }
 
     /// Prints what both say of a session that may stand for another.
@@ -92,7 +86,12 @@ fn last_step(rt: &HostRuntime) -> io::Result<()> {
         .under(heap, Unary::Next)?
         .under(heap, Unary::Not)?;
     let card = "(sessions 1)\n(signal x)\n(signal y)\n(rule (not (next (true))))\n";
-    if let Some(sample) = read_sample(rt, card, 1, form)? {
+    let ruling = Ruling {
+        places: 1,
+        signals: 2,
+        form,
+    };
+    if let Some(sample) = read_sample(rt, card, ruling)? {
         sample.tuple(rt, &[&[0]])?;
         sample.tuple(rt, &[&[0, 0]])?;
     }
@@ -103,7 +102,12 @@ fn last_step(rt: &HostRuntime) -> io::Result<()> {
 fn until(rt: &HostRuntime) -> io::Result<()> {
     let form = at(0, 0).with(rt.alloc(), Binary::Until, at(0, 1))?;
     let card = "(sessions 1)\n(signal x)\n(signal y)\n(rule (until (at 1 x) (at 1 y)))\n";
-    if let Some(sample) = read_sample(rt, card, 1, form)? {
+    let ruling = Ruling {
+        places: 1,
+        signals: 2,
+        form,
+    };
+    if let Some(sample) = read_sample(rt, card, ruling)? {
         sample.tuple(rt, &[&[1, 1, 2]])?;
         sample.tuple(rt, &[&[1, 1]])?;
         sample.tuple(rt, &[&[2]])?;
@@ -115,7 +119,12 @@ fn until(rt: &HostRuntime) -> io::Result<()> {
 fn always_near(rt: &HostRuntime) -> io::Result<()> {
     let form = near(1, 3).under(rt.alloc(), Unary::Always)?;
     let card = "(sessions 2)\n(signal x)\n(signal y)\n(rule (always (near 1 2 1 x y)))\n";
-    if let Some(sample) = read_sample(rt, card, 2, form)? {
+    let ruling = Ruling {
+        places: 2,
+        signals: 2,
+        form,
+    };
+    if let Some(sample) = read_sample(rt, card, ruling)? {
         sample.tuple(rt, &[&[0], &[3]])?;
         sample.tuple(rt, &[&[0], &[1, 3]])?;
     }
@@ -128,7 +137,12 @@ fn demo(rt: &HostRuntime) -> io::Result<()> {
     let form = near(0, 4).with(heap, Binary::Weak, near(0, 1).under(heap, Unary::Not)?)?;
     let card =
         "(sessions 2)\n(signal tariff)\n(signal load)\n(signal feed)\n(rule (weak (near 1 2 0 feed) (not (near 1 2 0 tariff))))\n";
-    if let Some(sample) = read_sample(rt, card, 2, form)? {
+    let ruling = Ruling {
+        places: 2,
+        signals: 3,
+        form,
+    };
+    if let Some(sample) = read_sample(rt, card, ruling)? {
         sample.tuple(rt, &[&[1, 5], &[1, 1]])?;
         sample.tuple(rt, &[&[1, 5], &[1, 0]])?;
         sample.pair(rt, &[1, 5], &[3, 7])?;
@@ -147,7 +161,12 @@ fn never_both(rt: &HostRuntime) -> io::Result<()> {
         .under(heap, Unary::Always)?;
     let card =
         "(sessions 2)\n(signal x)\n(signal y)\n(rule (always (or (not (at 1 x)) (not (at 2 y)))))\n";
-    if let Some(sample) = read_sample(rt, card, 2, form)? {
+    let ruling = Ruling {
+        places: 2,
+        signals: 2,
+        form,
+    };
+    if let Some(sample) = read_sample(rt, card, ruling)? {
         sample.pair(rt, &[1, 1, 0, 0], &[1, 0, 0, 0])?;
         sample.pair(rt, &[1, 0, 0, 0], &[1, 1, 0, 0])?;
         sample.pair(rt, &[1, 0, 1, 0], &[1, 1, 0, 0])?;
@@ -159,7 +178,7 @@ fn never_both(rt: &HostRuntime) -> io::Result<()> {
 }
 
 /// Plays all samples.
-pub fn play(rt: &HostRuntime) -> io::Result<()> {
+pub(crate) fn play(rt: &HostRuntime) -> io::Result<()> {
     last_step(rt)?;
     until(rt)?;
     always_near(rt)?;

@@ -1,15 +1,17 @@
-//! Numbers that look random.
+//! Numbers that look random, and what samples are made with.
 ghost use Rattle.std.specs.Prelude.{◌≤◌};
+
+use std::alloc::Global;
 
 /// A source of numbers that look random and are the same on each run.
 #[derive(Drop)]
-pub struct Random {
+pub(crate) struct Random {
     state: u64,
 }
 
 impl Random {
     /// The source of a seed.
-    pub fn new(seed: u64) -> Random {
+    pub(crate) fn new(seed: u64) -> Random {
         Random { state: seed }
     }
 
@@ -23,24 +25,43 @@ impl Random {
     }
 
     /// A letter: any 32 bits.
-    pub fn letter(&mut self) -> u32 {
+    pub(crate) fn letter(&mut self) -> u32 {
         (self.next() & 0xffff_ffff) as u32
     }
 
     /// A number below the limit; 0 where the limit is 0.
-    pub fn below(&mut self, limit: u8) -> u8
+    pub(crate) fn below(&mut self, limit: u8) -> u8
         ensures { result ≤ limit }
     {
         (self.next() % limit.max(1) as u64) as u8
     }
 
+    /// A number of places: 1 to 4.
+    pub(crate) fn places(&mut self) -> u8 {
+        self.below(4).saturating_add(1)
+    }
+
     /// The set of one of the first signals, of which there are so many.
-    pub fn signal(&mut self, signals: u8) -> u32 {
+    pub(crate) fn signal(&mut self, signals: u8) -> u32 {
         1 << self.below(signals).min(31)
     }
 
     /// True once in so many times.
-    pub fn one_in(&mut self, times: u8) -> bool {
+    pub(crate) fn one_in(&mut self, times: u8) -> bool {
         self.below(times) == 0
     }
+
+    /// Some of the first bits, of which there are so many, each once in so many times.
+    pub(crate) fn some_of(&mut self, bits: u8, times: u8) -> u32 {
+        (0..bits.min(32))
+            .filter(|_| self.one_in(times))
+            .fold(0, |set, bit| set | 1 << bit)
+    }
+}
+
+/// What samples are made with.
+#[derive(Drop)]
+pub(crate) struct Source {
+    pub(crate) heap: Global,
+    pub(crate) random: Random,
 }

@@ -1,14 +1,14 @@
 //! Rules that look random, judged through their own table and through their card.
 use crate::card_text::Ruling;
-use crate::compare::compare;
-use crate::grow::{Bounds, grow};
-use crate::judge::Judge;
-use crate::random::Random;
+use crate::compare::{Asking, Comparison};
+use crate::grow::Bounds;
+use crate::random::{Random, Source};
 use crate::sessions::Lists;
 use crate::tally::{Tallies, Tally};
+use crate::trial::Trial;
 use card::{Card, read};
-use std::alloc::{AllocError, Global};
-use std::io;
+use std::alloc::AllocError;
+use std::{fmt, io};
 use table_policy::TablePolicy;
 
 /// The most nodes of a card's rule.
@@ -20,19 +20,11 @@ const TOO_MANY_NODES: u8 = 7;
 /// A kind of rules: how many there are, how long their sessions mostly are at most, how deep they
 /// go, and how many of their forms that look over all steps stand inside one another.
 #[derive(Clone, Copy)]
-pub struct Kind {
-    pub rules: u32,
-    pub longest: u8,
-    pub depth: u8,
-    pub loops: u8,
-}
-
-/// What came of a kind of rules.
-#[derive(Clone, Copy)]
-struct Results {
-    tables: Tallies,
-    cards: Tallies,
-    refusals: Tally,
+pub(crate) struct Kind {
+    pub(crate) rules: u32,
+    pub(crate) longest: u8,
+    pub(crate) depth: u8,
+    pub(crate) loops: u8,
 }
 
 /// How many signals a rule may name: mostly few.
@@ -45,102 +37,119 @@ fn signals(random: &mut Random) -> u8 {
     }
 }
 
-/// A rule of a kind.
-pub fn ruling(
-    heap: Global,
-    random: &mut Random,
-    places: u8,
+impl Kind {
+    /// A rule of the kind.
+    pub(crate) fn ruling(self, source: &mut Source, places: u8) -> Result<Ruling, AllocError> {
+        let signals = signals(&mut source.random);
+        let bounds = Bounds {
+            places,
+            signals,
+            loops: self.loops,
+        };
+        let form = bounds.grow(source, self.depth)?;
+        Ok(Ruling {
+            places,
+            signals,
+            form,
+        })
+    }
+}
+
+/// The rules of a kind, and what came of them.
+#[derive(Clone, Copy)]
+pub(crate) struct Rules {
     kind: Kind,
-) -> Result<Ruling, AllocError> {
-    let signals = signals(random);
-    let bounds = Bounds {
-        places,
-        signals,
-        loops: kind.loops,
-    };
-    let form = grow(heap, random, bounds, kind.depth)?;
-    Ok(Ruling {
-        places,
-        signals,
-        form,
-    })
+    tables: Tallies,
+    cards: Tallies,
+    refusals: Tally,
 }
 
-/// Judges by a rule's own table, where it is not too large for one.
-fn by_table(
-    rt: &HostRuntime,
-    ruling: &Ruling,
-    lists: &Lists,
-    random: &mut Random,
-    tallies: &mut Tallies,
-) -> io::Result<()> {
-    match ruling.form.table(rt.alloc(), ruling.places)? {
-        Some(table) => compare(rt, &TablePolicy::new(table), ruling, lists, random, tallies),
-        None => Ok(()),
-    }
-}
-
-/// Judges by the table that is read from a rule's card. The card is refused exactly where it has
-/// too many nodes.
-fn by_card(
-    rt: &HostRuntime,
-    ruling: &Ruling,
-    lists: &Lists,
-    random: &mut Random,
-    results: &mut Results,
-) -> io::Result<()> {
-    let text = format!(in rt.alloc(); "{ruling}")?;
-    let too_large = ruling.form.card_nodes() > MOST_NODES;
-    match read(text.as_bytes()) {
-        Ok(card) => {
-            let Card { names: _, table } = card;
-            if results.refusals.count(false, too_large) {
-                println!(rt; "difference: this card is accepted\n{text}")?;
-            }
-            compare(
-                rt,
-                &TablePolicy::new(table),
-                ruling,
-                lists,
-                random,
-                &mut results.cards,
-            )
+impl Rules {
+    /// The rules of a kind, none of them judged yet.
+    pub(crate) fn new(kind: Kind) -> Rules {
+        Rules {
+            kind,
+            tables: Tallies::default(),
+            cards: Tallies::default(),
+            refusals: Tally::default(),
         }
-        Err(fault) => {
-            let number = fault.report().number;
-            if results
-                .refusals
-                .count(true, too_large && number == TOO_MANY_NODES)
-            {
-                println!(rt; "difference: this card is refused with {number}\n{text}")?;
+    }
+
+    /// Judges by a rule's own table, where it is not too large for one.
+    fn by_table(&mut self, asking: &mut Asking<'_>, ruling: &Ruling) -> io::Result<()> {
+        if let Some(table) = ruling.form.table(asking.rt.alloc(), ruling.places)? {
+            let comparison = Comparison {
+                policy: &TablePolicy::new(table),
+                judge: ruling,
+            };
+            comparison.run(asking, &mut self.tables)?;
+        }
+        Ok(())
+    }
+
+    /// Judges by the table that is read from a rule's card. The card is refused exactly where it
+    /// has too many nodes.
+    fn by_card(&mut self, asking: &mut Asking<'_>, ruling: &Ruling) -> io::Result<()> {
+        let rt = asking.rt;
+        let text = format!(in rt.alloc(); "{ruling}")?;
+        let too_large = ruling.form.card_nodes() > MOST_NODES;
+        match read(text.as_bytes()) {
+            Ok(card) => {
+                let Card { names: _, table } = card;
+                if self.refusals.count(false, too_large) {
+                    println!(rt; "difference: this card is accepted\n{text}")?;
+                }
+                let comparison = Comparison {
+                    policy: &TablePolicy::new(table),
+                    judge: ruling,
+                };
+                comparison.run(asking, &mut self.cards)
             }
-            Ok(())
+            Err(fault) => {
+                let number = fault.report().number;
+                let expected = too_large && number == TOO_MANY_NODES;
+                if self.refusals.count(true, expected) {
+                    println!(rt; "difference: this card is refused with {number}\n{text}")?;
+                }
+                Ok(())
+            }
         }
     }
 }
 
-/// Judges by rules of a kind, and prints what came of it.
-pub fn compare_rules(rt: &HostRuntime, random: &mut Random, kind: Kind) -> io::Result<()> {
-    let heap = rt.alloc();
-    let mut results = Results {
-        tables: Tallies::NONE,
-        cards: Tallies::NONE,
-        refusals: Tally::NONE,
-    };
-    for _ in 0..kind.rules {
-        let places = random.below(4).saturating_add(1);
-        let ruling = ruling(heap, random, places, kind)?;
+impl Trial for Rules {
+    fn rounds(&self) -> u32 {
+        self.kind.rules
+    }
+
+    fn round(&mut self, rt: &HostRuntime, source: &mut Source, _round: u32) -> io::Result<()> {
+        let places = source.random.places();
+        let ruling = self.kind.ruling(source, places)?;
         let changing = ruling.signals.saturating_add(1);
-        let lists = Lists::new(heap, random, kind.longest, changing)?;
-        by_table(rt, &ruling, &lists, random, &mut results.tables)?;
-        by_card(rt, &ruling, &lists, random, &mut results)?;
+        let lists = Lists::new(source, self.kind.longest, changing)?;
+        let mut asking = Asking {
+            rt,
+            lists: &lists,
+            random: &mut source.random,
+        };
+        self.by_table(&mut asking, &ruling)?;
+        self.by_card(&mut asking, &ruling)
     }
-    let rules = kind.rules;
-    let longest = kind.longest;
-    println!(rt; "{rules} rules, sessions of mostly up to {longest} letters")?;
-    results.tables.print(rt, "  own tables")?;
-    results.cards.print(rt, "  tables read from cards")?;
-    let refused = results.refusals.yes;
-    let differences = results.refusals.differences;
-    println!(rt; "  cards of over 64 nodes: {refused} refused, {differences} differences")
+}
+
+impl fmt::Display for Rules {
+    fn fmt<W: fmt::Write>(&self, f: &mut fmt::Formatter<W>) -> fmt::Result {
+        let Kind { rules, longest, .. } = self.kind;
+        writeln!(
+            f,
+            "{rules} rules, sessions of mostly up to {longest} letters"
+        )?;
+        write!(f, "  own tables: {}", self.tables)?;
+        write!(f, "  tables read from cards: {}", self.cards)?;
+        writeln!(
+            f,
+            "  cards of over {MOST_NODES} nodes: {} refused, {} differences",
+            self.refusals.yes, self.refusals.differences
+        )
+    }
 }

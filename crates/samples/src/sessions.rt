@@ -1,6 +1,6 @@
 //! Lists of letters to judge.
-use crate::random::Random;
-use std::alloc::{AllocError, Global};
+use crate::random::{Random, Source};
+use std::alloc::AllocError;
 
 /// How many lists there are at a time.
 const LISTS: u8 = 6;
@@ -8,49 +8,8 @@ const LISTS: u8 = 6;
 /// Lists of letters to choose from: sessions of different lengths, some that differ little from one
 /// another, and a few lists that are no sessions.
 #[derive(Drop)]
-pub struct Lists {
+pub(crate) struct Lists {
     lists: Vec<Vec<u32>>,
-}
-
-/// A list of so many letters, each mostly the one before it with a signal changed.
-fn drifting(
-    heap: Global,
-    random: &mut Random,
-    len: usize,
-    signals: u8,
-) -> Result<Vec<u32>, AllocError> {
-    let calm = random.below(20);
-    let mut letters = Vec::new(heap);
-    let mut letter = random.letter();
-    for _ in 0..len {
-        if random.one_in(calm) {
-            letter ^= random.signal(signals);
-        }
-        letters.push(letter)?;
-    }
-    Ok(letters)
-}
-
-/// A list with the same letters, but for a signal in some of them, that is turned on in all of
-/// those or off in all.
-fn varied(
-    heap: Global,
-    random: &mut Random,
-    letters: &[u32],
-    signals: u8,
-) -> Result<Vec<u32>, AllocError> {
-    let signal = random.signal(signals);
-    let turned_on = random.one_in(2);
-    let mut varied = Vec::new(heap);
-    for letter in letters {
-        let changed = if turned_on {
-            *letter | signal
-        } else {
-            *letter & !signal
-        };
-        varied.push(if random.one_in(2) { changed } else { *letter })?;
-    }
-    Ok(varied)
 }
 
 /// How many letters a list has that is to have at most so many: now and then none, or more than a
@@ -63,24 +22,52 @@ fn list_len(random: &mut Random, longest: u8) -> usize {
     }
 }
 
+impl Source {
+    /// A list of mostly at most so many letters, each mostly the one before it with a signal changed.
+    fn drifting(&mut self, longest: u8, signals: u8) -> Result<Vec<u32>, AllocError> {
+        let random = &mut self.random;
+        let len = list_len(random, longest);
+        let calm = random.below(20);
+        let mut letter = random.letter();
+        (0..len)
+            .map(|_| {
+                if random.one_in(calm) {
+                    letter ^= random.signal(signals);
+                }
+                letter
+            })
+            .collect(self.heap)
+    }
+
+    /// A list with the same letters, but for a signal in some of them, that is turned on in all of
+    /// those or off in all.
+    fn varied(&mut self, letters: &[u32], signals: u8) -> Result<Vec<u32>, AllocError> {
+        let random = &mut self.random;
+        let signal = random.signal(signals);
+        let turned_on = random.one_in(2);
+        letters
+            .iter()
+            .map(|letter| match (random.one_in(2), turned_on) {
+                (true, true) => *letter | signal,
+                (true, false) => *letter & !signal,
+                (false, _) => *letter,
+            })
+            .collect(self.heap)
+    }
+}
+
 impl Lists {
     /// Lists of mostly at most so many letters, in which so many signals change.
-    pub fn new(
-        heap: Global,
-        random: &mut Random,
-        longest: u8,
-        signals: u8,
-    ) -> Result<Lists, AllocError> {
+    pub(crate) fn new(source: &mut Source, longest: u8, signals: u8) -> Result<Lists, AllocError> {
         let mut all = Lists {
-            lists: Vec::new(heap),
+            lists: Vec::new(source.heap),
         };
         for made in 0..LISTS {
-            let list = if made == 0 || random.one_in(2) {
-                let len = list_len(random, longest);
-                drifting(heap, random, len, signals)?
+            let list = if made == 0 || source.random.one_in(2) {
+                source.drifting(longest, signals)?
             } else {
-                let model = random.below(made);
-                varied(heap, random, all.get(model), signals)?
+                let model = source.random.below(made);
+                source.varied(all.get(model), signals)?
             };
             all.lists.push(list)?;
         }
@@ -88,7 +75,7 @@ impl Lists {
     }
 
     /// The list at an index; none at all past the last.
-    pub fn get(&self, index: u8) -> &[u32] {
+    fn get(&self, index: u8) -> &[u32] {
         match self.lists.get(index as usize) {
             Some(list) => list.as_slice(),
             None => &[],
@@ -96,7 +83,7 @@ impl Lists {
     }
 
     /// One of the lists.
-    pub fn any(&self, random: &mut Random) -> &[u32] {
+    pub(crate) fn any(&self, random: &mut Random) -> &[u32] {
         self.get(random.below(LISTS))
     }
 }

@@ -1,4 +1,4 @@
-use Rattle.samples.proofs.grow.+grow.Given as goal
+use Rattle.samples.proofs.grow.Bounds.+grow.Given as goal
 
 abbrev pub decreases-grow : goal.decreases-grow
 decreases-grow l = l.depth

@@ -1,26 +1,19 @@
 -- Numbers as sets of signals.
-use Rattle.std.proofs.Common.{◌≡◌, ℕ, zero, suc, ◌+◌, ◌/◌, ◌%◌, ◌^◌, ◌<◌, ◌≤◌, Bool, ⊎_elim, pow_mono, lt_of_lt_of_le, cond, ◌&&◌, eqb, ◌⊎◌, Decides, sym, refl, ap, ◌∙◌, subst, ap₂, inl, inr, mod-lt, zero-lt-suc, pow-suc, div-one, mul-div_cancel, arith, pow_pos, shr-shr}
-use lib.Arith.{bin_ind}
-use lib.Bits.{bit_and, bit_or, bit_xor, and_shr, and_mod, or_shr, or_mod, xor_shr, xor_mod}
+use Rattle.std.proofs.Common.{◌≡◌, ℕ, zero, suc, ◌+◌, ◌/◌, ◌%◌, ◌^◌, ◌<◌, min, Bool, cond, ◌&&◌, eqb, ◌⊎◌, Decides, sym, refl, ap, ◌∙◌, ap₂, inl, inr, ⊎_elim, mod-lt, arith, pow_pos}
+use lib.Bits.{bit_and, bit_or, bit_xor, and_shr, and_mod, xor_shr, xor_mod}
 use lib.Count.{ones, ones_cat}
 use lib.Pow.{mod-pow-add}
-use native.Mathlib.Nat.{div_self, zero-div, mod-one, mul-mod_left}
-use Rattle.std.proofs.Math.Nat.{div-eq_of_lt}
-use Rattle.std.proofs.lemmas.Bool.{cases_lt}
+use native.Mathlib.Nat.{mod-one}
+use Rattle.std.proofs.lemmas.Bool.{cases_eq, cases_lt}
 use Rattle.std.proofs.lemmas.Bool.Decides.{Decides-eqb, Decides-like}
+use Rattle.std.proofs.lemmas.Nat.Bits.{bit_at-lt, bit_at-zero, bit_at-pow_same, bit_at-pow_other, bit_at_and, bit_at_or, bit_at_above, same_from_bits}
 use Rattle.policy.specs.Sessions.{On, on, counted, apart}
 
 abbrev pub digit : ℕ → ℕ → ℕ
 digit a k = a / 2 ^ k % 2
 
-pub digit_lt : (a k : ℕ) → digit a k < 2
-digit_lt a k = mod-lt (a / 2 ^ k) (zero-lt-suc 1)
-
 pub digit_and : (a b k : ℕ) → digit (bit_and a b) k ≡ bit_and (digit a k) (digit b k)
 digit_and a b k = ap (λ (x : ℕ). x % 2) (and_shr a b k) ∙ and_mod (a / 2 ^ k) (b / 2 ^ k) 1
-
-pub digit_or : (a b k : ℕ) → digit (bit_or a b) k ≡ bit_or (digit a k) (digit b k)
-digit_or a b k = ap (λ (x : ℕ). x % 2) (or_shr a b k) ∙ or_mod (a / 2 ^ k) (b / 2 ^ k) 1
 
 pub digit_xor : (a b k : ℕ) → digit (bit_xor a b) k ≡ bit_xor (digit a k) (digit b k)
 digit_xor a b k = ap (λ (x : ℕ). x % 2) (xor_shr a b k) ∙ xor_mod (a / 2 ^ k) (b / 2 ^ k) 1
@@ -36,31 +29,7 @@ the_digit (suc zero) h = on'
 the_digit (suc (suc x)) h = absurd (let z : ⊥ = omega arith in z)
 
 pub digit_is : (a k : ℕ) → Digit (digit a k)
-digit_is a k = the_digit (digit a k) (digit_lt a k)
-
--- numbers with the same digits are equal
-digit_half : (n k : ℕ) → digit (n / 2) k ≡ digit n (suc k)
-digit_half n k =
-    let e : 1 + k ≡ suc k = omega arith in
-    ap (λ (x : ℕ). x % 2) (shr-shr n 1 k) ∙ ap (λ (x : ℕ). n / 2 ^ x % 2) e
-
-digit_low : (n : ℕ) → digit n 0 ≡ n % 2
-digit_low n = ap (λ (x : ℕ). x % 2) (div-one n)
-
-pub no_digits : (n : ℕ) → ((k : ℕ) → digit n k ≡ 0) → n ≡ 0
-no_digits =
-    bin_ind (λ (n : ℕ). ((k : ℕ) → digit n k ≡ 0) → n ≡ 0) (λ h. refl)
-    (λ n ih h. let half : n / 2 ≡ 0 = ih (λ k. digit_half n k ∙ h (suc k)) in
-    let low : n % 2 ≡ 0 = sym (digit_low n) ∙ h 0 in
-    omega arith)
-
-pub same_digits : (a b : ℕ) → ((k : ℕ) → digit a k ≡ digit b k) → a ≡ b
-same_digits =
-    bin_ind (λ (n : ℕ). (b : ℕ) → ((k : ℕ) → digit n k ≡ digit b k) → n ≡ b)
-    (λ b h. sym (no_digits b (λ k. sym (h k) ∙ ap (λ (x : ℕ). x % 2) (zero-div (2 ^ k)))))
-    (λ n ih b h. let half : n / 2 ≡ b / 2 = ih (b / 2) (λ k. digit_half n k ∙ h (suc k) ∙ sym (digit_half b k)) in
-    let low : n % 2 ≡ b % 2 = sym (digit_low n) ∙ h 0 ∙ digit_low b in
-    omega arith)
+digit_is a k = the_digit (digit a k) (bit_at-lt a k)
 
 -- two digits that are 1 together are equal
 pub digit_same : {x y : ℕ} → Digit x → Digit y → (x ≡ 1 → y ≡ 1) → (y ≡ 1 → x ≡ 1) → x ≡ y
@@ -98,79 +67,34 @@ tells_digit on' on' off = refl
 tells_digit on' on' on' = refl
 
 pub on_zero : (s : ℕ) → On 0 s → ⊥
-on_zero s h =
-    let z : 0 / 2 ^ s % 2 ≡ 0 = ap (λ (x : ℕ). x % 2) (zero-div (2 ^ s)) in
-    let one : ◌≡◌ {A = ℕ} 0 1 = sym z ∙ h in
-    omega arith
+on_zero s h = omega (arith, bit_at-zero s)
 
 pub on_pow : (t s : ℕ) → On (2 ^ t) s → t ≡ s
-on_pow zero zero h = refl
-on_pow zero (suc s) h = absurd (on_zero s (digit_half 1 s ∙ h))
-on_pow (suc t) zero h =
-    let even : 2 ^ suc t % 2 ≡ 0 = ap (λ (x : ℕ). x % 2) (pow-suc 2 t) ∙ mul-mod_left (2 ^ t) 2 in
-    let one : ◌≡◌ {A = ℕ} 0 1 = sym even ∙ sym (digit_low (2 ^ suc t)) ∙ h in
-    absurd (let z : ⊥ = omega arith in z)
-on_pow (suc t) (suc s) h =
-    let half : 2 ^ suc t / 2 ≡ 2 ^ t = ap (λ (x : ℕ). x / 2) (pow-suc 2 t) ∙ mul-div_cancel (2 ^ t) (zero-lt-suc 1) in
-    ap suc (on_pow t s (ap (λ (x : ℕ). digit x s) (sym half) ∙ digit_half (2 ^ suc t) s ∙ h))
+on_pow t s h = ⊎_elim (λ e. sym e) (λ ne. absurd (omega (arith, bit_at-pow_other t s ne))) (cases_eq s t)
 
 pub pow_on : (t : ℕ) → On (2 ^ t) t
-pow_on t = ap (λ (x : ℕ). x % 2) (div_self (pow_pos t))
-
-or_digit : {a b : ℕ} → Digit a → Digit b → bit_or a b ≡ 1 → (a ≡ 1) ⊎ (b ≡ 1)
-or_digit off b e = inr e
-or_digit on' b e = inl refl
-
-digit_or_l : {a b : ℕ} → Digit b → a ≡ 1 → bit_or a b ≡ 1
-digit_or_l off e = ap (λ (x : ℕ). bit_or x 0) e
-digit_or_l on' e = ap (λ (x : ℕ). bit_or x 1) e
-
-digit_or_r : {a b : ℕ} → Digit a → b ≡ 1 → bit_or a b ≡ 1
-digit_or_r off e = e
-digit_or_r on' e = ap (λ (x : ℕ). bit_or 1 x) e
+pow_on t = bit_at-pow_same t
 
 pub on_or : (a b s : ℕ) → On (bit_or a b) s → On a s ⊎ On b s
-on_or a b s h = or_digit (digit_is a s) (digit_is b s) (sym (digit_or a b s) ∙ h)
+on_or a b s h = ⊎_elim inl (λ ne. inr (omega (arith, bit_at_or a b s, bit_at-lt a s, bit_at-lt b s))) (cases_eq (digit a s) 1)
 
 pub or_on : (a b s : ℕ) → On a s ⊎ On b s → On (bit_or a b) s
-or_on a b s (inl h) = digit_or a b s ∙ digit_or_l (digit_is b s) h
-or_on a b s (inr h) = digit_or a b s ∙ digit_or_r (digit_is a s) h
+or_on a b s (inl h) = omega (arith, bit_at_or a b s, bit_at-lt b s)
+or_on a b s (inr h) = omega (arith, bit_at_or a b s, bit_at-lt a s)
+
+pub on_below : (a n : ℕ) → a < 2 ^ n → (s : ℕ) → On a s → s < n
+on_below a n h s o = ⊎_elim (λ l. l) (λ l. absurd (omega (arith, bit_at_above a n s h l))) (cases_lt s n)
 
 -- ---- one set of signals within another
 
-and_digit : {a b : ℕ} → Digit a → Digit b → bit_and a b ≡ 1 → (a ≡ 1) × (b ≡ 1)
-and_digit off b e = absurd (let z : ⊥ = omega arith in z)
-and_digit on' off e = absurd (let z : ⊥ = omega (arith, e) in z)
-and_digit on' on' e = (refl, refl)
-
-pub on_and : (a b s : ℕ) → On (bit_and a b) s → On a s × On b s
-on_and a b s h = and_digit (digit_is a s) (digit_is b s) (sym (digit_and a b s) ∙ h)
-
-pub and_on : (a b s : ℕ) → On a s → On b s → On (bit_and a b) s
-and_on a b s p q = digit_and a b s ∙ ap₂ bit_and p q
-
-within_digit : {m a b : ℕ} → Digit m → Digit a → Digit b → (m ≡ 1 → a ≡ 1 → b ≡ 1) → bit_and (bit_and m a) b ≡ bit_and m a
-within_digit off a b h = refl
-within_digit on' off b h = refl
-within_digit on' on' off h = h refl refl
-within_digit on' on' on' h = refl
+within : (m a b : ℕ) → m < 2 → a < 2 → b < 2 → (m ≡ 1 → a ≡ 1 → b ≡ 1) → min (min m a) b ≡ min m a
+within m a b lm la lb h = ⊎_elim (λ p. ⊎_elim (λ q. omega (arith, h p q)) (λ ne. omega arith) (cases_eq a 1)) (λ ne. omega arith) (cases_eq m 1)
 
 -- each signal of the set m that is on in a is on in b
 pub covers_decides : (m a b : ℕ) → Decides (eqb (bit_and (bit_and m a) b) (bit_and m a)) ((x : ℕ) → On m x → On a x → On b x)
 covers_decides m a b =
     Decides-like _
-    (λ e x p q. (on_and (bit_and m a) b x (subst (λ (y : ℕ). On y x) (sym e) (and_on m a x p q))).1)
-    (λ h. same_digits _ _ (λ x. digit_and (bit_and m a) b x ∙ ap (λ (y : ℕ). bit_and y (digit b x)) (digit_and m a x)
-    ∙ within_digit (digit_is m x) (digit_is a x) (digit_is b x) (h x) ∙ sym (digit_and m a x)))
+    (λ e x p q. omega (arith, ap (λ (y : ℕ). digit y x) e, bit_at_and (bit_and m a) b x, bit_at_and m a x, bit_at-lt b x))
+    (λ h. same_from_bits _ _ (λ x. bit_at_and (bit_and m a) b x ∙ ap (λ (y : ℕ). min y (digit b x)) (bit_at_and m a x)
+    ∙ within (digit m x) (digit a x) (digit b x) (bit_at-lt m x) (bit_at-lt a x) (bit_at-lt b x) (h x) ∙ sym (bit_at_and m a x)))
     (Decides-eqb (bit_and (bit_and m a) b) (bit_and m a))
-
--- ---- the bits of a number below a power of 2
-
-pub on_below : (a n : ℕ) → a < 2 ^ n → (s : ℕ) → On a s → s < n
-on_below a n h s o = ⊎_elim (λ l. l) (λ l. absurd (past l)) (cases_lt s n)
-  where
-    past : n ≤ s → ⊥
-    past l =
-        let z : a / 2 ^ s ≡ 0 = div-eq_of_lt (lt_of_lt_of_le h (pow_mono l)) in
-        let one : ◌≡◌ {A = ℕ} 0 1 = sym (ap (λ (x : ℕ). x % 2) z) ∙ o in
-        omega arith

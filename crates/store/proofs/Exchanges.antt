@@ -8,7 +8,8 @@ use Rattle.std.proofs.lemmas.List.{take_all, take_at, length-map, length_push}
 use Rattle.std.proofs.lemmas.List.Sums.{sum_by_push}
 use Rattle.store.specs.declared.header.Header.{Header}
 use Rattle.store.specs.declared.memory_store.MemoryStore.{MemoryStore}
-use Rattle.store.specs.Entries.{Entry, Limits, exchanged, letters_in, takes, without_from}
+use Rattle.store.specs.declared.limits.Limits.{Limits}
+use Rattle.store.specs.Entries.{Entry, exchanged, letters_in, takes, without_from}
 use Rattle.store.specs.Headers.{headers_in}
 use Rattle.store.specs.Layouts.{letters_of, room_of, spread}
 use Rattle.store.specs.Inner.Kept.{has_room}

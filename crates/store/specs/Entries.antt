@@ -1,7 +1,7 @@
 -- What a store holds, and the law that every store keeps.
 use Rattle.std.specs.Prelude.{ℕ, suc, ◌≤◌, Bool, cond, ◌&&◌, List, [], ◌∷◌, ◌++◌, length, drop, Some, None, sum_by, Option, nat_eq, nat_le}
 use Rattle.std.specs.List.{AllByRecursion, list_any, slice_get}
-pub use Rattle.store.specs.declared.limits.Limits.{Limits}
+use Rattle.store.specs.declared.limits.Limits.{Limits}
 use Rattle.store.specs.declared.session.Session.{Session}
 
 -- a kept session: its number and its letters

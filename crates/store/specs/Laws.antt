@@ -10,7 +10,8 @@ use Rattle.std.proofs.lemmas.List.Sums.{sum_by-cons, sum_by-le, sum_by_more_le}
 use Rattle.std.proofs.ByRecursion.{All-get_or}
 use Rattle.std.proofs.lemmas.Bool.{and_parts, and_from, leb-true, le-leb}
 use Rattle.store.specs.declared.header.Header.{Header}
-use Rattle.store.specs.Entries.{Entry, Limits, InRange, Within, letters_in}
+use Rattle.store.specs.declared.limits.Limits.{Limits}
+use Rattle.store.specs.Entries.{Entry, InRange, Within, letters_in}
 use Rattle.store.specs.Layouts.{LieEndToEnd, LieInSlots, front, joined, letters_of, room_of, spread}
 use Rattle.store.specs.Inner.Kept.{all_short}
 use Rattle.store.specs.Limits.{slot_limits, packed_limits}

@@ -1,6 +1,6 @@
 -- The limits of a store by the letters of its memory, and the refusal of too few.
 use Rattle.std.specs.Prelude.{ℕ, ◌*◌, ◌/◌, min}
-use Rattle.store.specs.Entries.{Limits}
+use Rattle.store.specs.declared.limits.Limits.{Limits}
 
 -- the refusal of memory of under 128 letters
 abbrev pub short_number : ℕ

@@ -2,7 +2,8 @@
 use Rattle.std.specs.Prelude.{◌≡◌, ◌<◌, ◌≤◌, List, [], vec_items, vec_len}
 use Rattle.store.specs.declared.memory_store.MemoryStore.{MemoryStore}
 use Rattle.store.specs.declared.too_short.TooShort.{TooShort}
-use Rattle.store.specs.Entries.{Entry, Limits}
+use Rattle.store.specs.declared.limits.Limits.{Limits}
+use Rattle.store.specs.Entries.{Entry}
 use Rattle.store.specs.Headers.{headers_in}
 use Rattle.store.specs.Layouts.{spread}
 use Rattle.store.specs.Memory.{Memory}

@@ -1,6 +1,7 @@
 ghost use Rattle.std.specs.Prelude.{◌≡◌, ℕ, ◌≤◌, List, length, take, vec_items, vec_len};
 ghost use Rattle.std.specs.List.{AllByRecursion};
-ghost use Rattle.store.specs.Entries.{Entry, Limits, InRange};
+ghost use Rattle.store.specs.declared.limits.Limits.{Limits};
+ghost use Rattle.store.specs.Entries.{Entry, InRange};
 ghost use Rattle.store.specs.Headers.{headers_in};
 ghost use Rattle.store.specs.Layouts.{letters_of, room_of, spread};
 ghost use Rattle.store.specs.Memory.{Memory};

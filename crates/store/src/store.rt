@@ -1,7 +1,8 @@
 ghost use Rattle.std.specs.Prelude.{◌≡◌, List, [], length, if◌then◌else◌, is_ok, OnErr};
 ghost use Rattle.std.specs.Option.{option_map};
 ghost use Rattle.std.specs.List.{slice_get};
-ghost use Rattle.store.specs.Entries.{Entry, Limits, Within, entry_of, exchanged, takes, read_at, written};
+ghost use Rattle.store.specs.declared.limits.Limits.{Limits};
+ghost use Rattle.store.specs.Entries.{Entry, Within, entry_of, exchanged, takes, read_at, written};
 
 use crate::session::{NoRoom, Session};
 

@@ -5,12 +5,13 @@
 mod model;
 mod play;
 mod random;
+mod tally;
 
 use model::Model;
-use play::{Tally, play};
+use play::Play;
 use std::alloc::{AllocError, Global};
 use std::io;
-use store::{PackedStore, SlotStore, TooShort};
+use store::{Layout, MemoryStore, Packed, Slots};
 
 /// How many calls are played on each store.
 const CALLS: u32 = 4000;
@@ -22,110 +23,58 @@ fn first_letter(index: usize) -> u32 {
 
 /// Memory of so many letters.
 fn memory(heap: Global, len: usize) -> Result<Vec<u32>, AllocError> {
-    let mut letters = Vec::new(heap);
-    for i in 0..len {
-        letters.push(first_letter(i))?;
-    }
-    Ok(letters)
+    (0..len).map(first_letter).collect(heap)
 }
 
 /// Whether the memory has so many letters, and those from a place on are as they were at first.
 fn memory_alike(memory: &[u32], len: usize, from: usize) -> bool {
-    for (i, letter) in memory.iter().enumerate() {
-        if i >= from && *letter != first_letter(i) {
-            return false;
-        }
-    }
     memory.len() == len
+        && memory
+            .iter()
+            .enumerate()
+            .skip(from)
+            .all(|(i, letter)| *letter == first_letter(i))
 }
 
-/// Prints what came of a store over so many letters.
-fn report(
+/// Plays on a store over so many letters, which should keep at most so many sessions with at most
+/// so many letters in all, and prints what came of it.
+fn play_over<L: Layout>(
     rt: &HostRuntime,
-    store: &str,
+    name: &str,
     len: usize,
-    tally: &Tally,
-    memory_alike: bool,
+    sessions: usize,
+    letters: usize,
 ) -> io::Result<()> {
-    let calls = tally.calls;
-    let taken = tally.taken;
-    let refused = tally.refused;
-    let differences = tally.differences;
-    let sessions = tally.most_sessions;
-    let letters = tally.most_letters;
-    let memory = if memory_alike {
-        "as it should be"
-    } else {
-        "wrong"
-    };
-    println!(rt;
-        "{store} store over {len} letters: {calls} calls, {taken} taken, {refused} refused,"
-    )?;
-    println!(rt;
-        "  up to {sessions} sessions and {letters} letters, {differences} differences, memory {memory}"
-    )
-}
-
-/// Prints that no store is made over so many letters.
-fn report_refusal(rt: &HostRuntime, store: &str, len: usize, refusal: &TooShort) -> io::Result<()> {
-    let number = refusal.number();
-    let memory = if memory_alike(refusal.memory.as_slice(), len, 0) {
-        "as it was"
-    } else {
-        "wrong"
-    };
-    println!(rt; "{store} store over {len} letters: refused with {number}, memory {memory}")
-}
-
-fn play_slots(rt: &HostRuntime, len: usize) -> io::Result<()> {
     let heap = rt.alloc();
-    match SlotStore::new(memory(heap, len)?) {
-        Err(refusal) => report_refusal(rt, "slot", len, &refusal),
-        Ok(made) => {
-            let mut store = made;
-            let slots = len.min(8192) / 128;
-            let tally = play(
-                &mut store,
-                Model::new(heap, slots, 128 * slots),
-                CALLS,
-                heap,
-            )?;
-            let memory = store.into_memory();
-            report(
-                rt,
-                "slot",
-                len,
-                &tally,
-                memory_alike(memory.as_slice(), len, 128 * slots),
-            )
+    match MemoryStore::<L>::new(memory(heap, len)?) {
+        Err(refusal) => {
+            let number = refusal.number();
+            let memory = if memory_alike(refusal.memory.as_slice(), len, 0) {
+                "as it was"
+            } else {
+                "wrong"
+            };
+            println!(rt; "{name} store over {len} letters: refused with {number}, memory {memory}")
         }
-    }
-}
-
-fn play_packed(rt: &HostRuntime, len: usize) -> io::Result<()> {
-    let heap = rt.alloc();
-    match PackedStore::new(memory(heap, len)?) {
-        Err(refusal) => report_refusal(rt, "packed", len, &refusal),
-        Ok(made) => {
-            let mut store = made;
-            let room = len.min(8192);
-            let tally = play(&mut store, Model::new(heap, 64, room), CALLS, heap)?;
-            let memory = store.into_memory();
-            report(
-                rt,
-                "packed",
-                len,
-                &tally,
-                memory_alike(memory.as_slice(), len, room),
-            )
+        Ok(store) => {
+            let mut play = Play::new(store, Model::new(heap, sessions, letters), heap);
+            play.run(CALLS)?;
+            let (store, tally) = play.finish();
+            let memory = if memory_alike(store.into_memory().as_slice(), len, letters) {
+                "as it should be"
+            } else {
+                "wrong"
+            };
+            println!(rt; "{name} store over {len} letters: {tally}, memory {memory}")
         }
     }
 }
 
 fn main(rt: HostRuntime) -> io::Result<()> {
     for len in [0, 127, 128, 129, 200, 256, 1000, 8191, 8192, 9000] {
-        play_slots(&rt, len)?;
-        play_packed(&rt, len)?;
+        let slots = len.min(8192) / 128;
+        play_over::<Slots>(&rt, "slot", len, slots, 128 * slots)?;
+        play_over::<Packed>(&rt, "packed", len, 64, len.min(8192))?;
     }
     Ok(())
 }

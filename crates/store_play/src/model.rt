@@ -1,4 +1,5 @@
 use std::alloc::{AllocError, Global};
+use store::{NoRoom, Session};
 
 /// A kept session, as the model has it.
 #[derive(Drop)]
@@ -7,9 +8,19 @@ struct Kept {
     letters: Vec<u32>,
 }
 
+impl Kept {
+    /// A copy of the session.
+    fn new(heap: Global, number: u32, letters: &[u32]) -> Result<Kept, AllocError> {
+        Ok(Kept {
+            number,
+            letters: Vec::from_slice(heap, letters)?,
+        })
+    }
+}
+
 /// What a store should hold: a list of sessions, written down anew at each exchange.
 #[derive(Drop)]
-pub struct Model {
+pub(crate) struct Model {
     most_sessions: usize,
     most_letters: usize,
     kept: Vec<Kept>,
@@ -17,15 +28,14 @@ pub struct Model {
 
 /// How many letters the sessions have in all.
 fn letters_in(kept: &[Kept]) -> usize {
-    let mut all = 0usize;
-    for session in kept {
-        all = all.saturating_add(session.letters.len());
-    }
-    all
+    kept.iter().fold(
+        0usize,
+        |all, session| all.saturating_add(session.letters.len()),
+    )
 }
 
 impl Model {
-    pub fn new(heap: Global, most_sessions: usize, most_letters: usize) -> Model {
+    pub(crate) fn new(heap: Global, most_sessions: usize, most_letters: usize) -> Model {
         Model {
             most_sessions,
             most_letters,
@@ -34,54 +44,48 @@ impl Model {
     }
 
     /// How many sessions there are.
-    pub fn len(&self) -> usize {
+    pub(crate) fn len(&self) -> usize {
         self.kept.len()
     }
 
     /// How many letters they have in all.
-    pub fn letters(&self) -> usize {
+    pub(crate) fn letters(&self) -> usize {
         letters_in(self.kept.as_slice())
     }
 
-    /// The number and the letters of the session at a place.
-    pub fn session(&self, place: usize) -> Option<(u32, &[u32])> {
-        match self.kept.get(place) {
-            Some(session) => Some((session.number, session.letters.as_slice())),
-            None => None,
-        }
+    /// The session at a place.
+    pub(crate) fn session(&self, place: usize) -> Option<Session> {
+        self.kept.get(place).map(|kept| Session {
+            number: kept.number,
+            letters: kept.letters.as_slice(),
+        })
     }
 
-    pub fn clear(&mut self) {
+    pub(crate) fn clear(&mut self) {
         self.kept.clear();
     }
 
     /// Writes the list after the exchange, and takes it where it is within the limits.
-    pub fn exchange(
+    pub(crate) fn exchange(
         &mut self,
         heap: Global,
         places: &[usize],
-        number: u32,
-        letters: &[u32],
-    ) -> Result<bool, AllocError> {
-        let mut after = Vec::new(heap);
-        for (place, session) in self.kept.iter().enumerate() {
-            if !places.contains(&place) {
-                after.push(Kept {
-                    number: session.number,
-                    letters: Vec::from_slice(heap, session.letters.as_slice())?,
-                })?;
-            }
-        }
-        after.push(Kept {
-            number,
-            letters: Vec::from_slice(heap, letters)?,
-        })?;
+        session: Session,
+    ) -> Result<Result<(), NoRoom>, AllocError> {
+        let mut after: Vec<Kept> = self
+            .kept
+            .iter()
+            .enumerate()
+            .filter(|(place, _)| !places.contains(place))
+            .map(|(_, kept)| Kept::new(heap, kept.number, kept.letters.as_slice()))
+            .try_collect(heap)?;
+        after.push(Kept::new(heap, session.number, session.letters)?)?;
         let fits = after.len() <= self.most_sessions
             && letters_in(after.as_slice()) <= self.most_letters;
-        if letters.len() > 128 || !fits {
-            return Ok(false);
+        if session.letters.len() > 128 || !fits {
+            return Ok(Err(NoRoom));
         }
         self.kept = after;
-        Ok(true)
+        Ok(Ok(()))
     }
 }

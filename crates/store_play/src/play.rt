@@ -1,77 +1,139 @@
 use crate::model::Model;
 use crate::random::Random;
+use crate::tally::Tally;
 use std::alloc::{AllocError, Global};
-use store::Store;
+use store::{Session, Store};
 
 /// What a buffer's letters are before a copy.
 const MARK: u32 = 0xffff_ffff;
 
-/// What came of the calls that were played.
-#[derive(Drop)]
-pub struct Tally {
-    pub calls: u32,
-    pub taken: u32,
-    pub refused: u32,
-    pub differences: u32,
-    pub most_sessions: usize,
-    pub most_letters: usize,
-}
-
-impl Tally {
-    fn note(&mut self, alike: bool) {
-        if !alike {
-            self.differences = self.differences.saturating_add(1);
-        }
-    }
-}
-
 /// Whether the buffer has the letters at its front and marks behind them.
 fn has_front(buffer: &[u32], letters: &[u32]) -> bool {
-    if letters.len() > buffer.len() {
-        return false;
-    }
-    for (i, x) in buffer.iter().enumerate() {
-        let wanted = if i < letters.len() { letters[i] } else { MARK };
-        if *x != wanted {
-            return false;
+    buffer.starts_with(letters) && buffer.iter().skip(letters.len()).all(|x| *x == MARK)
+}
+
+/// A store beside its model, the numbers that say what is played on both, and what came of it.
+#[derive(Drop)]
+pub(crate) struct Play<S> {
+    store: S,
+    model: Model,
+    random: Random,
+    tally: Tally,
+    heap: Global,
+}
+
+impl<S: Store + Drop> Play<S> {
+    /// Nothing is played yet on a store that holds nothing.
+    pub(crate) fn new(store: S, model: Model, heap: Global) -> Play<S> {
+        Play {
+            store,
+            model,
+            random: Random::new(4),
+            tally: Tally::new(),
+            heap,
         }
     }
-    true
-}
 
-/// Whether the copy of a place's letters to a buffer of marks is as the model says.
-fn copy_alike<S: Store>(store: &S, model: &Model, place: usize, buffer: &mut [u32]) -> bool {
-    let room = buffer.len();
-    let answer = store.letters(place, buffer);
-    match model.session(place) {
-        Some((_, letters)) if letters.len() <= room => answer == Some(letters.len())
-            && has_front(buffer, letters),
-        _ => answer.is_none() && has_front(buffer, &[]),
+    /// The store, and what came of the calls.
+    pub(crate) fn finish(self) -> (S, Tally) {
+        let Play {
+            store,
+            model: _,
+            random: _,
+            tally,
+            heap: _,
+        } = self;
+        (store, tally)
     }
-}
 
-/// The same with a buffer of so many letters, at most 140.
-fn letters_alike<S: Store>(store: &S, model: &Model, place: usize, room: usize) -> bool {
-    let mut buffer = [MARK; 140];
-    copy_alike(store, model, place, &mut buffer[0..room.min(140)])
-}
-
-/// Whether the answer for a place is as the model says.
-fn entry_alike<S: Store>(store: &S, model: &Model, place: usize) -> bool {
-    match model.session(place) {
-        Some((number, letters)) => store.entry(place) == Some((number, letters.len())),
-        None => store.entry(place).is_none(),
+    /// Plays so many calls, and compares everything after each.
+    pub(crate) fn run(&mut self, calls: u32) -> Result<(), AllocError> {
+        for _ in 0..calls {
+            self.call()?;
+            let alike = self.entries_alike()?;
+            self.tally.note(alike);
+            self.tally.calls = self.tally.calls.saturating_add(1);
+            self.tally.most_sessions = self.tally.most_sessions.max(self.model.len());
+            self.tally.most_letters = self.tally.most_letters.max(self.model.letters());
+        }
+        Ok(())
     }
-}
 
-/// Whether every entry is as the model says, and there is none past the last.
-fn entries_alike<S: Store>(store: &S, model: &Model) -> bool {
-    for place in 0..model.len() {
-        if !entry_alike(store, model, place) || !letters_alike(store, model, place, 128) {
-            return false;
+    /// A random call on both.
+    fn call(&mut self) -> Result<(), AllocError> {
+        match self.random.below(1000) {
+            0 => {
+                self.store.clear();
+                self.model.clear();
+                Ok(())
+            }
+            1..=200 => self.read(),
+            _ => self.exchange(),
         }
     }
-    entry_alike(store, model, model.len())
+
+    /// A read of some place to a buffer of some length.
+    fn read(&mut self) -> Result<(), AllocError> {
+        let place = self.random.below(self.model.len().saturating_add(2));
+        let room = self.random.below(140);
+        let mut buffer = vec![in self.heap; MARK; room]?;
+        let alike = self.letters_alike(place, buffer.as_mut_slice());
+        self.tally.note(alike);
+        Ok(())
+    }
+
+    /// A random exchange.
+    fn exchange(&mut self) -> Result<(), AllocError> {
+        let end = self.model.len().saturating_add(3);
+        let random = &mut self.random;
+        let mut places: Vec<usize> = (0..8).map(|_| random.below(end)).collect(self.heap)?;
+        places.truncate(match random.below(8) {
+            0 => random.below(9),
+            1 | 2 | 3 => 1,
+            _ => 0,
+        });
+        let len = some_len(random, self.tally.calls);
+        let mut letters: Vec<u32> = (0..131).map(|_| random.next()).collect(self.heap)?;
+        letters.truncate(len);
+        let session = Session {
+            number: random.next(),
+            letters: letters.as_slice(),
+        };
+        let answer = self.store.exchange(places.as_slice(), session);
+        let wanted = self.model.exchange(self.heap, places.as_slice(), session)?;
+        self.tally.note(answer == wanted);
+        match wanted {
+            Ok(()) => self.tally.taken = self.tally.taken.saturating_add(1),
+            Err(_) => self.tally.refused = self.tally.refused.saturating_add(1),
+        }
+        Ok(())
+    }
+
+    /// Whether every entry is as the model says, and there is none past the last.
+    fn entries_alike(&self) -> Result<bool, AllocError> {
+        let mut buffer = vec![in self.heap; MARK; 128]?;
+        let alike = (0..self.model.len()).all(|place| self.entry_alike(place)
+            && self.letters_alike(place, buffer.as_mut_slice()));
+        Ok(alike && self.entry_alike(self.model.len()))
+    }
+
+    /// Whether the answer for a place is as the model says.
+    fn entry_alike(&self, place: usize) -> bool {
+        let wanted = self.model.session(place);
+        self.store.entry(place) == wanted.map(|session| (session.number, session.letters.len()))
+    }
+
+    /// Whether the copy of a place's letters to the buffer is as the model says.
+    fn letters_alike(&self, place: usize, buffer: &mut [u32]) -> bool {
+        buffer.fill(MARK);
+        let answer = self.store.letters(place, buffer);
+        match self.model.session(place) {
+            Some(session) if session.letters.len() <= buffer.len() => answer
+                == Some(session.letters.len())
+                && has_front(buffer, session.letters),
+            _ => answer.is_none() && has_front(buffer, &[]),
+        }
+    }
 }
 
 /// How many letters the next session has: few, any, many or exactly as many as there may be, by
@@ -83,81 +145,4 @@ fn some_len(random: &mut Random, call: u32) -> usize {
         2 => random.below(11).saturating_add(120),
         _ => 128,
     }
-}
-
-/// A random exchange on the store and the model.
-fn play_exchange<S: Store>(
-    store: &mut S,
-    model: &mut Model,
-    random: &mut Random,
-    tally: &mut Tally,
-    heap: Global,
-) -> Result<(), AllocError> {
-    let mut places = [0usize; 8];
-    for place in places.iter_mut() {
-        *place = random.below(model.len().saturating_add(3));
-    }
-    let named = match random.below(8) {
-        0 => random.below(9),
-        1 | 2 | 3 => 1,
-        _ => 0,
-    };
-    let len = some_len(random, tally.calls);
-    let mut letters = [0u32; 131];
-    for letter in letters.iter_mut() {
-        *letter = random.next();
-    }
-    let number = random.next();
-    let answer = store.exchange(&places[0..named.min(8)], number, &letters[0..len.min(131)]);
-    let wanted = model.exchange(
-        heap,
-        &places[0..named.min(8)],
-        number,
-        &letters[0..len.min(131)],
-    )?;
-    tally.note(answer == wanted);
-    if wanted {
-        tally.taken = tally.taken.saturating_add(1);
-    } else {
-        tally.refused = tally.refused.saturating_add(1);
-    }
-    Ok(())
-}
-
-/// Plays so many calls on a store that holds nothing yet, and compares everything after each.
-pub fn play<S: Store>(
-    store: &mut S,
-    model: Model,
-    calls: u32,
-    heap: Global,
-) -> Result<Tally, AllocError> {
-    let mut model = model;
-    let mut random = Random::new(4);
-    let mut tally = Tally {
-        calls: 0,
-        taken: 0,
-        refused: 0,
-        differences: 0,
-        most_sessions: 0,
-        most_letters: 0,
-    };
-    for _ in 0..calls {
-        match random.below(1000) {
-            0 => {
-                store.clear();
-                model.clear();
-            }
-            1..=200 => {
-                let place = random.below(model.len().saturating_add(2));
-                let room = random.below(140);
-                tally.note(letters_alike(store, &model, place, room));
-            }
-            _ => play_exchange(store, &mut model, &mut random, &mut tally, heap)?,
-        }
-        tally.note(entries_alike(store, &model));
-        tally.calls = tally.calls.saturating_add(1);
-        tally.most_sessions = tally.most_sessions.max(model.len());
-        tally.most_letters = tally.most_letters.max(model.letters());
-    }
-    Ok(tally)
 }

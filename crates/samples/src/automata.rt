@@ -84,10 +84,9 @@ impl Source {
         let count = self.random.below(24);
         let good = self.random.good_states(states);
         let mut edges = self.edges(count, states)?;
-        if !self.random.one_in(4) {
-            for from in 0..states {
-                edges.push(self.random.open_edge(from, states))?;
-            }
+        let random = &mut self.random;
+        if !random.one_in(4) {
+            edges.extend((0..states).map(|from| random.open_edge(from, states)))?;
         }
         Ok(Rows {
             places,

@@ -81,13 +81,7 @@ impl<'a, P: Policy, J: Judge> Comparison<'a, P, J> {
     /// Asks both whether a tuple of some of the lists breaks the policy.
     fn ask_breaks(&self, asking: &mut Asking<'_>, tallies: &mut Tallies) -> io::Result<()> {
         let places = self.judge.places();
-        let five = [
-            asking.list(),
-            asking.list(),
-            asking.list(),
-            asking.list(),
-            asking.list(),
-        ];
+        let five = [(); 5].map(|_| asking.list());
         let tuple = &five[..asking.tuple_len(places)];
         if !are_sessions(tuple, places) {
             tallies.no_tuples = tallies.no_tuples.saturating_add(1);

@@ -68,7 +68,8 @@ impl Rows {
             .map(|edge| edge.to)
     }
 
-    /// Whether the run that is in a state at the step `i` ends in a good one.
+    /// Whether the run that is in a state at the step `i` ends in a good one. A recursion, since the
+    /// engine's run goes through the steps in a loop, and this one is to be written another way.
     fn ends_well(&self, state: u8, word: Word<'_>, i: usize) -> bool {
         if i >= word.steps {
             return is_on(self.good as u32, state);

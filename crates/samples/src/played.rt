@@ -4,6 +4,7 @@ use crate::form::Form;
 use crate::judge::Judge;
 use crate::word::InARow;
 use card::{Card, read};
+use lexer::Report;
 use policy::Policy;
 use std::io;
 use syntax::{Binary, Unary};
@@ -44,7 +45,7 @@ fn read_sample(rt: &HostRuntime, card: &str, ruling: Ruling) -> io::Result<Optio
             }))
         }
         Err(fault) => {
-            println!(rt; "  refused with {}", fault.report().number)?;
+            println!(rt; "  refused with {}", Report::from(fault).number)?;
             Ok(None)
         }
     }

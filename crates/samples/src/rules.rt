@@ -7,6 +7,7 @@ use crate::sessions::Lists;
 use crate::tally::{Tallies, Tally};
 use crate::trial::Trial;
 use card::{Card, read};
+use lexer::Report;
 use std::alloc::AllocError;
 use std::{fmt, io};
 use table_policy::TablePolicy;
@@ -106,7 +107,7 @@ impl Rules {
                 comparison.run(asking, &mut self.cards)
             }
             Err(fault) => {
-                let number = fault.report().number;
+                let number = Report::from(fault).number;
                 let expected = too_large && number == TOO_MANY_NODES;
                 if self.refusals.count(true, expected) {
                     println!(rt; "difference: this card is refused with {number}\n{text}")?;

@@ -15,6 +15,7 @@ pub struct Guard {
 pub struct Edge {
     pub from: u8,
     pub to: u8,
+    /// One for each place, in place, since the library has no heap.
     pub guards: [Guard; 4],
 }
 

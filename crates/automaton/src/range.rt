@@ -26,6 +26,7 @@ impl OutOfRange {
 }
 
 /// Whether so many places and states, the set of good states and the edges make an automaton.
+// They stay apart: a struct of them would be an automaton before it is one.
 pub(crate) fn in_range(places: usize, states: usize, good: u16, edges: &[Edge]) -> bool
     ensures { Decides result (InRange places states good edges.now) }
 {

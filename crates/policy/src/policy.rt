@@ -17,6 +17,7 @@ pub trait Policy {
         ensures { result ≡ (meaning self.now).breaks (map (λ x. x.now) tuple.now) };
 
     /// Whether the session `s` stands for the session `t`; no where one of them is no session.
+    // Two arguments: a struct of both sessions would be no plainer than their names.
     fn stands_for(&self, s: &[u32], t: &[u32]) -> bool
         ensures { result ≡ (meaning self.now).stands s.now t.now };
 

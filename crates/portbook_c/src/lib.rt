@@ -9,7 +9,7 @@ use portbook::{NoRoom, write_card_line};
 #[cfg(test)]
 mod tests;
 
-/// The answer where there is too little room.
+/// The answer where there is too little room: C has no Result, so the entry answers a number.
 const NO_ROOM: i32 = -13;
 
 /// Writes the line of a card to the front of `out` and answers its length. The rest of `out` stays

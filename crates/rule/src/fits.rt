@@ -20,6 +20,7 @@ fn all_fit(places: usize, nodes: &[Node]) -> bool
 }
 
 /// Whether nodes make a table of so many places.
+// They stay apart: a struct of both would be a table before it is one.
 pub(crate) fn table_fits(places: usize, nodes: &[Node]) -> bool
     ensures { Decides result (TableFits places nodes.now) }
 {

@@ -16,7 +16,8 @@ const QUESTIONS: u8 = 6;
 /// The most places of a tuple that is asked about: one more than a policy may have.
 const MOST_PLACES: u8 = 5;
 
-/// Where differences are printed, and what questions are made of.
+/// Where differences are printed, and what questions are made of. The tallies go beside it, since each
+/// caller counts in others.
 #[derive(Drop)]
 pub(crate) struct Asking<'a> {
     pub(crate) rt: &'a HostRuntime,

@@ -13,6 +13,7 @@ pub(crate) trait Judge: fmt::Display {
     fn accepts(&self, word: Word<'_>) -> bool;
 
     /// Whether one signal lets the list `s` stand for the list `t`.
+    // Two arguments: a struct of both lists would be no plainer than their names.
     fn allows(&self, signal: u8, s: &[u32], t: &[u32]) -> bool;
 
     /// Whether a tuple breaks what is judged by.

@@ -6,6 +6,7 @@ use syntax::{Binary, Unary};
 
 impl Form {
     /// Whether the form holds at the step `i` of a word.
+    // The step goes beside the word: each of the five methods asks at steps of its own.
     #[cycle(holds)]
     pub(crate) fn holds(&self, word: Word<'_>, i: usize) -> bool {
         match self {
@@ -31,6 +32,8 @@ impl Form {
             Form::Two(Binary::Weak, f, g) => f.weak(g, word, i),
         }
     }
+
+    // The quantifiers are methods: within `holds` it was not shown that a closure's form is smaller.
 
     /// Whether the form holds at each step from `i` to the one before `j`.
     #[cycle(holds)]

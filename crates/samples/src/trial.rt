@@ -8,6 +8,7 @@ pub(crate) trait Trial: fmt::Display {
     fn rounds(&self) -> u32;
 
     /// Makes the sample of a round, judges by it, and prints what differs.
+    // `rt` goes beside the source: where to print is no part of what is drawn.
     fn round(&mut self, rt: &HostRuntime, source: &mut Source, round: u32) -> io::Result<()>;
 }
 

@@ -28,6 +28,7 @@ pub(crate) struct Model {
 
 /// How many letters the sessions have in all.
 fn letters_in(kept: &[Kept]) -> usize {
+    // No `sum`: nothing here bounds it.
     kept.iter().fold(
         0usize,
         |all, session| all.saturating_add(session.letters.len()),

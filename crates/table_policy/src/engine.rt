@@ -68,6 +68,7 @@ fn row_at(
     ensures { RowIs (sessions word.now.places) word.now.steps (rules (nodes_of table.now)) result (word.now.steps - step) (length (nodes_of table.now)) }
 {
     let letters = word.letters_at(step);
+    // By index: the row is read while it is written. It is an array, since the library has no heap.
     let mut row = [false; MOST_NODES];
     for (index, node) in table.nodes().iter().enumerate() {
         row[index] = value(*node, index, &letters, &row, later);
@@ -80,6 +81,7 @@ pub(crate) fn first_value(table: &Table, word: &JoinedWord) -> bool
     ensures { result ≡ eval (sessions word.now.places) word.now.steps (rule_of table.now) word.now.steps }
 {
     let mut row = [false; MOST_NODES];
+    // By index: a step is a column through the places, and no slice has it.
     for step in (0..word.len()).rev() {
         row = row_at(table, word, step, &row);
     }

@@ -68,13 +68,13 @@ impl Headers {
         ensures { headers_in result ≡ without_from 0 places.now (headers_in self.now) }
     {
         let headers = self.as_slice();
-        let mut left = Headers::new();
+        let mut list = FixedVec::new(UNUSED);
         for (place, header) in headers.iter().enumerate() {
             if places.contains(&place) {
                 continue;
             }
-            left.push(*header);
+            list.push(*header).unwrap();
         }
-        left
+        Headers { list }
     }
 }

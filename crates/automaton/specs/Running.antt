@@ -10,20 +10,25 @@ use Rattle.automaton.specs.Runs.{column, Takes, Run, Accepted, Breaks, Stuck, Fa
 use Rattle.automaton.specs.Testing.{shown, next_state, go_on, accepts}
 use Rattle.automaton.specs.Stepping.{same_some, false_from, next_takes, takes_next, none_stuck, stuck_none, shown_same}
 
--- ---- a step of the loop, by the letters of the first places
+-- ---- a step of the loop
 
+module _ (k : ℕ) (es : List Edge) (good : ℕ) (xs : Tuple) (m i q : ℕ) (l : i < m) where
+  step : accepts k es good xs (m - i) i q ≡ go_on (next_state k es (column xs i) q) (λ r. accepts k es good xs (m - (i + 1)) (i + 1) r)
+  step = let e : m - i ≡ suc (m - (i + 1)) = omega arith in ap (λ d. accepts k es good xs d i q) e
+
+  pub stops : None ≡ next_state k es (column xs i) q → accepts k es good xs (m - i) i q ≡ false
+  stops e = step ∙ ap (λ o. go_on o (λ r. accepts k es good xs (m - (i + 1)) (i + 1) r)) (sym e)
+
+  pub goes : (r : ℕ) → Some r ≡ next_state k es (column xs i) q → accepts k es good xs (m - i) i q ≡ accepts k es good xs (m - (i + 1)) (i + 1) r
+  goes r e = step ∙ ap (λ o. go_on o (λ s. accepts k es good xs (m - (i + 1)) (i + 1) s)) (sym e)
+
+-- the same by the letters of the first places
 module _ (k : ℕ) (es : List Edge) (good : ℕ) (xs : Tuple) (m i q : ℕ) (ls : List ℕ) (few : k ≤ 4) (l : i < m) (shows : ls ≡ take k (letters xs i)) where
-  step : (o : Option ℕ) → o ≡ next_state (length ls) es (shown ls) q → accepts k es good xs (m - i) i q ≡ go_on o (λ r. accepts k es good xs (m - (i + 1)) (i + 1) r)
-  step o e =
-      let more : m - i ≡ suc (m - (i + 1)) = omega arith in
-      ap (λ d. accepts k es good xs d i q) more
-      ∙ ap (λ n. go_on n (λ r. accepts k es good xs (m - (i + 1)) (i + 1) r)) (sym (e ∙ shown_same k es xs i ls q few shows))
+  pub stops_shown : None ≡ next_state (length ls) es (shown ls) q → accepts k es good xs (m - i) i q ≡ false
+  stops_shown e = stops k es good xs m i q l (e ∙ shown_same k es xs i ls q few shows)
 
-  pub stops : None ≡ next_state (length ls) es (shown ls) q → accepts k es good xs (m - i) i q ≡ false
-  stops = step None
-
-  pub goes : (r : ℕ) → Some r ≡ next_state (length ls) es (shown ls) q → accepts k es good xs (m - i) i q ≡ accepts k es good xs (m - (i + 1)) (i + 1) r
-  goes r = step (Some r)
+  pub goes_shown : (r : ℕ) → Some r ≡ next_state (length ls) es (shown ls) q → accepts k es good xs (m - i) i q ≡ accepts k es good xs (m - (i + 1)) (i + 1) r
+  goes_shown r e = goes k es good xs m i q l r (e ∙ shown_same k es xs i ls q few shows)
 
 -- ---- the run
 

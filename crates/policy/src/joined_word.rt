@@ -4,6 +4,7 @@ ghost use Rattle.policy.specs.Sessions.{sessions};
 mod methods;
 
 use crate::tuple::MOST_PLACES;
+pub use methods::letters_at;
 
 /// The joined word of a tuple: the sessions of its first four places, each as far as the shortest
 /// of the tuple goes, and how many steps that is. A place that the tuple lacks has no letters.

@@ -9,7 +9,7 @@ mod session;
 mod signals;
 mod tuple;
 
-pub use joined_word::JoinedWord;
+pub use joined_word::{JoinedWord, letters_at};
 pub use letter::is_on;
 pub use pair::{Pair, UnlikePlaces};
 pub use policy::Policy;

@@ -1,31 +1,39 @@
 //! Prints the line of the card in `card.txt`.
 #![tactic(auto)]
 
+ghost use Rattle.std.specs.Prelude.{◌≡◌, ◌≤◌, length};
+
 use portbook::write_card_line;
 use std::fs::File;
 use std::io;
 use std::io::{Read, Write};
 
 /// How many bytes of the file are read: one more than a card may have.
-const MOST_BYTES: u64 = 4097;
+const MOST_BYTES: usize = 4097;
 
-/// Room for all that is read, and to see that nothing follows.
-const ROOM: usize = 8192;
-
-/// The first bytes of a file. There are none where it cannot be opened, and where it cannot be read
-/// to the end they are those that were read. The room is made first, so that reading does not fail
-/// for want of memory.
-fn load(rt: &HostRuntime, path: &str) -> io::Result<Vec<u8>> {
-    let mut bytes = Vec::with_capacity(rt.alloc(), ROOM)?;
-    if let Ok(file) = File::open(rt, path) {
-        let _ = file.take(MOST_BYTES).read_to_end(&mut bytes);
+/// Reads a file to the buffer's front, as far as there is room; how many bytes were read. A file
+/// that cannot be opened has none.
+fn load(rt: &HostRuntime, path: &str, buffer: &mut [u8]) -> usize
+    ensures { result ≤ length buffer.new }
+{
+    let Ok(mut file) = File::open(rt, path) else {
+        return 0;
+    };
+    // By hand, over a buffer in place: a Vec can run out of memory, and this program does not fail for that.
+    let mut len = 0;
+    while len < buffer.len() {
+        match file.read(&mut buffer[len..]) {
+            Ok(0) | Err(_) => return len,
+            Ok(n) => len += n,
+        }
     }
-    Ok(bytes)
+    len
 }
 
 fn main(rt: HostRuntime) -> io::Result<()> {
-    let card = load(&rt, "card.txt")?;
+    let mut bytes = [0; MOST_BYTES];
+    let len = load(&rt, "card.txt", &mut bytes);
     let mut line = [0; 64];
-    let length = write_card_line(&card, &mut line).unwrap();
+    let length = write_card_line(&bytes[0..len], &mut line).unwrap();
     rt.stdout().write_all(&line[0..length])
 }

@@ -34,6 +34,14 @@ fn letter_at(session: &[u32], step: usize) -> u32
     session.get(step).copied().unwrap_or(0)
 }
 
+/// The letters of four places at a step, place by place. Where a place has no letter there, no
+/// signal is on.
+pub fn letters_at(places: &[&[u32]; 4], step: usize) -> [u32; 4]
+    ensures { result ≡ letters (sessions places.now) step }
+{
+    places.map(|session| letter_at(session, step))
+}
+
 impl<'a> JoinedWord<'a> {
     /// The joined word of a tuple: as many steps as the session that ends first.
     pub fn new(tuple: &[&'a [u32]]) -> JoinedWord<'a>
@@ -55,10 +63,17 @@ impl<'a> JoinedWord<'a> {
         self.steps
     }
 
+    /// The sessions of the first four places, each as far as there are steps.
+    pub fn places(&self) -> [&'a [u32]; 4]
+        ensures { result ≡ self.now.places }
+    {
+        self.places
+    }
+
     /// The letters at a step, place by place. Where a place has no letter there, no signal is on.
     pub fn letters_at(&self, step: usize) -> [u32; 4]
         ensures { result ≡ letters (sessions self.now.places) step }
     {
-        self.places.map(|session| letter_at(session, step))
+        letters_at(&self.places, step)
     }
 }

@@ -6,6 +6,7 @@ mod methods;
 mod run;
 
 use crate::edge::Edge;
+use crate::range::MOST_EDGES;
 use fixed_vec::FixedVec;
 
 /// A deterministic automaton over the joined word of a tuple, by its rows, and the signals that
@@ -19,7 +20,7 @@ pub struct Automaton {
     places: usize,
     states: usize,
     good: u16,
-    edges: FixedVec<Edge, 64>,
+    edges: FixedVec<Edge, MOST_EDGES>,
     signals: u32,
     ghost sound: { InRange places states good (items_of edges) },
     ghost seen: { signals ≡ union places (items_of edges) },

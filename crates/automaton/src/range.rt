@@ -10,7 +10,7 @@ use policy::MOST_PLACES;
 const MOST_STATES: usize = 16;
 
 /// The most edges of an automaton.
-const MOST_EDGES: usize = 64;
+pub(crate) const MOST_EDGES: usize = 64;
 
 /// The refusal of numbers or rows that make no automaton.
 #[derive(Clone, Copy, Debug, PartialEq, Eq)]

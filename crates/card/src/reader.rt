@@ -7,7 +7,7 @@ ghost use Rattle.card.specs.Reading.{Due, nothing, run};
 
 use fixed_vec::FixedVec;
 use lexer::{Lexer, Spot, TokenFault};
-use rule::Node;
+use rule::{MOST_NODES, Node};
 use syntax::Names;
 
 /// What the tokens of a card have said so far.
@@ -15,7 +15,7 @@ use syntax::Names;
 pub(crate) struct Draft {
     pub(crate) sessions: u8,
     pub(crate) names: Names,
-    pub(crate) nodes: FixedVec<Node, 64>,
+    pub(crate) nodes: FixedVec<Node, MOST_NODES>,
 }
 
 impl Draft {

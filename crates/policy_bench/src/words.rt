@@ -2,11 +2,9 @@
 
 /// A session of 128 letters that looks random, another for each seed.
 pub(crate) fn session(seed: u32) -> [u32; 128] {
-    let mut letters = [0; 128];
     let mut state = seed;
-    for letter in letters.iter_mut() {
+    std::array::from_fn(|_| {
         state = state.wrapping_mul(1664525).wrapping_add(1013904223);
-        *letter = state ^ (state >> 13);
-    }
-    letters
+        state ^ (state >> 13)
+    })
 }

@@ -19,6 +19,7 @@ fn put_number(line: &mut FixedVec<u8, 64>, number: usize) -> Result<(), Full>
 }
 
 /// The line of a word and three numbers in brackets, where it has at most 64 bytes.
+// Piece by piece: no clause of `write!` says when it succeeds, and the line is written for every card.
 fn three_numbers(word: &[u8], a: usize, b: usize, c: usize) -> Result<FixedVec<u8, 64>, Full>
     ensures taken { IsOk result ↔ (length (three word.now a b c) ≤ 64) }
     ensures ok { IfOk result (λ line. items_of line ≡ three word.now a b c) }

@@ -1,5 +1,5 @@
 /// The number of a kept session, and how many letters it has.
-#[derive(Clone, Copy)]
+#[derive(Clone, Copy, Debug, PartialEq, Eq)]
 pub struct Header {
     pub number: u32,
     pub len: usize,

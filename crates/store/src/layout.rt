@@ -1,4 +1,4 @@
-ghost use Rattle.std.specs.Prelude.{◌≡◌, ℕ, ◌≤◌, List, length, take, vec_items, vec_len};
+ghost use Rattle.std.specs.Prelude.{◌≡◌, ℕ, ◌≤◌, List, length, take, vec_items};
 ghost use Rattle.std.specs.List.{AllByRecursion};
 ghost use Rattle.store.specs.declared.limits.Limits.{Limits};
 ghost use Rattle.store.specs.Entries.{Entry, InRange};
@@ -28,6 +28,7 @@ pub trait Layout {
         ensures { result ≡ pitch len };
 
     /// Where the session at a place starts.
+    // Two arguments: a place alone means nothing, and headers with one of their places is no plainer.
     fn start(headers: &Headers, place: usize) -> usize
         ensures { result ≡ room_of pitch (take place (headers_in headers.now)) };
 

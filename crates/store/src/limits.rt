@@ -8,7 +8,7 @@ pub(crate) const MOST_SESSIONS: usize = 64;
 pub(crate) const MOST_LETTERS: usize = 8192;
 
 /// How many sessions are kept at most, and how many letters they have in all at most.
-#[derive(Clone, Copy)]
+#[derive(Clone, Copy, Debug, PartialEq, Eq)]
 pub struct Limits {
     pub sessions: usize,
     pub letters: usize,

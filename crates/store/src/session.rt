@@ -1,5 +1,5 @@
 /// A session to be kept: its number and its letters.
-#[derive(Clone, Copy)]
+#[derive(Clone, Copy, Debug, PartialEq, Eq)]
 pub struct Session<'a> {
     pub number: u32,
     pub letters: &'a [u32],

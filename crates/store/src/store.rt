@@ -22,6 +22,7 @@ pub trait Store {
 
     /// Copies the letters of the entry at a place to the front of the buffer, and answers how many
     /// they are. None, and nothing is written, where there is no entry or the buffer is too short.
+    // One answer for both, as the customer's list has it.
     fn letters(&self, place: usize, buffer: &mut [u32]) -> Option<usize>
         ensures count { result ≡ option_map length (read_at (entries self.now) place (length buffer.old)) }
         ensures copy { buffer.new ≡ written (read_at (entries self.now) place (length buffer.old)) buffer.old };

@@ -1,14 +1,13 @@
 //! The engine: the values of all nodes, from the last step of a joined word back.
-ghost use Rattle.std.specs.Prelude.{◌≡◌, ℕ, suc, ◌-◌, ◌<◌, false, List, length, nat_le, slice_index_or};
-ghost use Rattle.policy.specs.Sessions.{Tuple, letters, sessions};
+ghost use Rattle.std.specs.Prelude.{◌≡◌, suc, ◌-◌, ◌<◌, length, nat_le};
+ghost use Rattle.policy.specs.Sessions.{sessions};
 ghost use Rattle.rule.specs.Meaning.{differing};
-ghost use Rattle.rule.specs.Nodes.{NodeFits, node_rule, rules};
-ghost use Rattle.rule.specs.Rule.{Rule};
+ghost use Rattle.rule.specs.Nodes.{NodeFits, rules};
 ghost use Rattle.rule.specs.Tables.{nodes_of, rule_of};
 ghost use Rattle.table_policy.specs.Evaluating.{eval};
 ghost use Rattle.table_policy.specs.Inner.Rows.{RowIs, ValueIs};
 
-use policy::{JoinedWord, is_on};
+use policy::{JoinedWord, MOST_PLACES, is_on};
 use rule::{MOST_NODES, Node, Table};
 
 /// Whether two letters differ in at most `limit` of the signals of the mask.
@@ -26,7 +25,7 @@ fn is_near(mask: u32, a: u32, b: u32, limit: u32) -> bool
 fn value(
     node: Node,
     index: usize,
-    letters: &[u32; 4],
+    letters: &[u32; MOST_PLACES],
     row: &[bool; MOST_NODES],
     later: &[bool; MOST_NODES],
 ) -> bool
@@ -68,7 +67,7 @@ fn row_at(
     ensures { RowIs (sessions word.now.places) word.now.steps (rules (nodes_of table.now)) result (word.now.steps - step) (length (nodes_of table.now)) }
 {
     let letters = word.letters_at(step);
-    // By index: the row is read while it is written. It is an array, since the library has no heap.
+    // Fixed memory: a value for each node that a table can have, of which this table's are written.
     let mut row = [false; MOST_NODES];
     for (index, node) in table.nodes().iter().enumerate() {
         row[index] = value(*node, index, &letters, &row, later);

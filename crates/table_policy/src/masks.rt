@@ -39,5 +39,5 @@ pub(crate) fn signals(table: &Table) -> Signals
         let signals = signals_of(*node, read.as_slice());
         read.push(signals).unwrap();
     }
-    read.as_slice()[table.nodes().len() - 1]
+    *read.as_slice().last().unwrap()
 }

@@ -20,7 +20,7 @@ fn front<'a>(session: &'a [u32], steps: usize) -> &'a [u32]
 }
 
 /// The sessions of the first four places, each as far as so many steps go.
-fn cut<'a>(tuple: &[&'a [u32]], steps: usize) -> [&'a [u32]; 4]
+fn cut<'a>(tuple: &[&'a [u32]], steps: usize) -> [&'a [u32]; MOST_PLACES]
     ensures four { length result ≡ 4 }
     ensures each { (v : ℕ) → v < 4 → slice_index_or (sessions result) v [] ≡ take steps (slice_index_or (sessions tuple.now) v []) }
 {
@@ -36,7 +36,7 @@ fn letter_at(session: &[u32], step: usize) -> u32
 
 /// The letters of four places at a step, place by place. Where a place has no letter there, no
 /// signal is on.
-pub fn letters_at(places: &[&[u32]; 4], step: usize) -> [u32; 4]
+pub fn letters_at(places: &[&[u32]; MOST_PLACES], step: usize) -> [u32; MOST_PLACES]
     ensures { result ≡ letters (sessions places.now) step }
 {
     places.map(|session| letter_at(session, step))
@@ -64,14 +64,14 @@ impl<'a> JoinedWord<'a> {
     }
 
     /// The sessions of the first four places, each as far as there are steps.
-    pub fn places(&self) -> [&'a [u32]; 4]
+    pub fn places(&self) -> [&'a [u32]; MOST_PLACES]
         ensures { result ≡ self.now.places }
     {
         self.places
     }
 
     /// The letters at a step, place by place. Where a place has no letter there, no signal is on.
-    pub fn letters_at(&self, step: usize) -> [u32; 4]
+    pub fn letters_at(&self, step: usize) -> [u32; MOST_PLACES]
         ensures { result ≡ letters (sessions self.now.places) step }
     {
         letters_at(&self.places, step)

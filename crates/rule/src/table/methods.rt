@@ -1,4 +1,4 @@
-ghost use Rattle.std.specs.Prelude.{◌≡◌, length, MatchOption};
+ghost use Rattle.std.specs.Prelude.{◌≡◌, MatchOption};
 ghost use Rattle.rule.specs.Nodes.{TableFits};
 ghost use Rattle.rule.specs.Tables.{nodes_of, HoldsNodes};
 

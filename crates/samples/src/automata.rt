@@ -70,11 +70,13 @@ impl Random {
     }
 }
 
-impl Source {
+impl<'a> Source<'a> {
     /// So many rows between so many states.
     fn edges(&mut self, rows: u8, states: u8) -> Result<Vec<Edge>, AllocError> {
         let random = &mut self.random;
-        (0..rows).map(|_| random.edge(states)).collect(self.heap)
+        (0..rows)
+            .map(|_| random.edge(states))
+            .collect(self.rt.alloc())
     }
 
     /// The rows of an automaton over so many places: after the first mostly one for each state that
@@ -137,7 +139,7 @@ impl Trial for Automata {
         AUTOMATA
     }
 
-    fn round(&mut self, rt: &HostRuntime, source: &mut Source, round: u32) -> io::Result<()> {
+    fn round(&mut self, source: &mut Source<'_>, round: u32) -> io::Result<()> {
         let places = source.random.places();
         let rows = source.rows(places)?;
         let longest = if round % 8 == 0 { 128 } else { 8 };
@@ -145,18 +147,19 @@ impl Trial for Automata {
         match rows.automaton() {
             Ok(automaton) => {
                 let mut asking = Asking {
-                    rt,
+                    rt: source.rt,
                     lists: &lists,
                     random: &mut source.random,
                 };
-                let comparison = Comparison {
+                let mut comparison = Comparison {
                     policy: &automaton,
                     judge: &rows,
+                    tallies: &mut self.tallies,
                 };
-                comparison.run(&mut asking, &mut self.tallies)
+                comparison.run(&mut asking)
             }
             Err(refusal) => {
-                println!(rt;
+                println!(source.rt;
                     "difference: an automaton is refused with {}",
                     refusal.number()
                 )
@@ -183,13 +186,13 @@ impl Trial for Numbers {
         NUMBERS
     }
 
-    fn round(&mut self, rt: &HostRuntime, source: &mut Source, _round: u32) -> io::Result<()> {
+    fn round(&mut self, source: &mut Source<'_>, _round: u32) -> io::Result<()> {
         let rows = source.odd_rows()?;
         let refused = rows
             .automaton()
             .is_err_and(|refusal| refusal.number() == OUT_OF_RANGE);
         if self.refusals.count(refused, !rows.are_right()) {
-            print!(rt; "difference: refused {refused}\n{rows}")?;
+            print!(source.rt; "difference: refused {refused}\n{rows}")?;
         }
         Ok(())
     }

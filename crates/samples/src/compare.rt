@@ -16,8 +16,7 @@ const QUESTIONS: u8 = 6;
 /// The most places of a tuple that is asked about: one more than a policy may have.
 const MOST_PLACES: u8 = 5;
 
-/// Where differences are printed, and what questions are made of. The tallies go beside it, since each
-/// caller counts in others.
+/// Where differences are printed, and what questions are made of.
 #[derive(Drop)]
 pub(crate) struct Asking<'a> {
     pub(crate) rt: &'a HostRuntime,
@@ -44,11 +43,12 @@ impl<'a> Asking<'a> {
     }
 }
 
-/// A policy of the engine beside a second judge.
+/// A policy of the engine beside a second judge, and what came of both.
 #[derive(Drop)]
 pub(crate) struct Comparison<'a, P, J> {
     pub(crate) policy: &'a P,
     pub(crate) judge: &'a J,
+    pub(crate) tallies: &'a mut Tallies,
 }
 
 impl<'a, P: Policy, J: Judge> Comparison<'a, P, J> {
@@ -69,10 +69,10 @@ impl<'a, P: Policy, J: Judge> Comparison<'a, P, J> {
     }
 
     /// Asks both for the number of places.
-    fn ask_places(&self, rt: &HostRuntime, tallies: &mut Tallies) -> io::Result<()> {
+    fn ask_places(&mut self, rt: &HostRuntime) -> io::Result<()> {
         let judge = self.judge;
         let alike = self.policy.arity() == judge.places() as usize;
-        if tallies.places.count(alike, true) {
+        if self.tallies.places.count(alike, true) {
             println!(rt; "difference: the number of places")?;
             print!(rt; "{judge}")?;
         }
@@ -80,43 +80,47 @@ impl<'a, P: Policy, J: Judge> Comparison<'a, P, J> {
     }
 
     /// Asks both whether a tuple of some of the lists breaks the policy.
-    fn ask_breaks(&self, asking: &mut Asking<'_>, tallies: &mut Tallies) -> io::Result<()> {
+    fn ask_breaks(&mut self, asking: &mut Asking<'_>) -> io::Result<()> {
         let places = self.judge.places();
         let five = [(); 5].map(|_| asking.list());
         let tuple = &five[..asking.tuple_len(places)];
         if !are_sessions(tuple, places) {
-            tallies.no_tuples = tallies.no_tuples.saturating_add(1);
+            self.tallies.no_tuples = self.tallies.no_tuples.saturating_add(1);
         }
         let engine = self.policy.breaks(tuple);
-        if tallies.broken.count(engine, self.judge.is_broken(tuple)) {
+        if self
+            .tallies
+            .broken
+            .count(engine, self.judge.is_broken(tuple))
+        {
             self.print_difference(asking.rt, "breaks", tuple, engine)?;
         }
         Ok(())
     }
 
     /// Asks both whether one of the lists stands for another.
-    fn ask_stands(&self, asking: &mut Asking<'_>, tallies: &mut Tallies) -> io::Result<()> {
+    fn ask_stands(&mut self, asking: &mut Asking<'_>) -> io::Result<()> {
         let s = asking.list();
         let t = asking.list();
         let engine = self.policy.stands_for(s, t);
         if engine && s != t {
-            tallies.unlike = tallies.unlike.saturating_add(1);
+            self.tallies.unlike = self.tallies.unlike.saturating_add(1);
         }
-        if tallies.standing.count(engine, self.judge.stands(s, t)) {
+        if self.tallies.standing.count(engine, self.judge.stands(s, t)) {
             self.print_difference(asking.rt, "stands for", &[s, t], engine)?;
         }
         Ok(())
     }
 
     /// Asks both for the number of places, and about some tuples and pairs of the lists.
-    pub(crate) fn run(&self, asking: &mut Asking<'_>, tallies: &mut Tallies) -> io::Result<()> {
-        let before = *tallies;
-        self.ask_places(asking.rt, tallies)?;
+    pub(crate) fn run(&mut self, asking: &mut Asking<'_>) -> io::Result<()> {
+        let before = *self.tallies;
+        self.ask_places(asking.rt)?;
         for _ in 0..QUESTIONS {
-            self.ask_breaks(asking, tallies)?;
-            self.ask_stands(asking, tallies)?;
+            self.ask_breaks(asking)?;
+            self.ask_stands(asking)?;
         }
-        tallies.note_mixed(before);
+        self.tallies.note_mixed(before);
         Ok(())
     }
 }

@@ -65,7 +65,7 @@ impl Bounds {
     }
 
     /// A form within the bounds, that goes so deep at most.
-    pub(crate) fn grow(self, source: &mut Source, depth: u8) -> Result<Form, AllocError> {
+    pub(crate) fn grow(self, source: &mut Source<'_>, depth: u8) -> Result<Form, AllocError> {
         if depth == 0 {
             return Ok(self.leaf(&mut source.random));
         }
@@ -73,13 +73,15 @@ impl Bounds {
             0 => Ok(self.leaf(&mut source.random)),
             1 | 2 | 3 => {
                 let (said, inner) = self.unary(&mut source.random);
-                inner.grow(source, depth - 1)?.under(source.heap, said)
+                inner
+                    .grow(source, depth - 1)?
+                    .under(source.rt.alloc(), said)
             }
             _ => {
                 let (said, inner) = self.binary(&mut source.random);
                 let first = inner.grow(source, depth - 1)?;
                 let second = inner.grow(source, depth - 1)?;
-                first.with(source.heap, said, second)
+                first.with(source.rt.alloc(), said, second)
             }
         }
     }

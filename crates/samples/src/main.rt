@@ -55,13 +55,13 @@ const KINDS: [Kind; 3] = [
 fn main(rt: HostRuntime) -> io::Result<()> {
     play(&rt)?;
     let mut source = Source {
-        heap: rt.alloc(),
+        rt: &rt,
         random: Random::new(1),
     };
     for kind in KINDS {
-        run(&rt, &mut source, Rules::new(kind))?;
+        run(&mut source, Rules::new(kind))?;
     }
-    run(&rt, &mut source, Automata::default())?;
-    run(&rt, &mut source, Numbers::default())?;
-    run(&rt, &mut source, Pairs::default())
+    run(&mut source, Automata::default())?;
+    run(&mut source, Numbers::default())?;
+    run(&mut source, Pairs::default())
 }

@@ -53,27 +53,30 @@ impl Pairs {
                 if self.refusals.count(false, unlike) {
                     println!(rt; "difference: unlike policies are a pair")?;
                 }
-                let comparison = Comparison {
+                let mut comparison = Comparison {
                     policy: &pair,
                     judge: &both,
+                    tallies: &mut self.pairs,
                 };
-                comparison.run(asking, &mut self.pairs)
+                comparison.run(asking)
             }
             Err(back) => {
                 let expected = unlike && back.number() == UNLIKE;
                 if self.refusals.count(true, expected) {
                     println!(rt; "difference: like policies are refused, or with another number")?;
                 }
-                let rule = Comparison {
+                let mut rule = Comparison {
                     policy: &back.first,
                     judge: both.first,
+                    tallies: &mut self.rules_back,
                 };
-                rule.run(asking, &mut self.rules_back)?;
-                let automaton = Comparison {
+                rule.run(asking)?;
+                let mut automaton = Comparison {
                     policy: &back.second,
                     judge: both.second,
+                    tallies: &mut self.automata_back,
                 };
-                automaton.run(asking, &mut self.automata_back)
+                automaton.run(asking)
             }
         }
     }
@@ -84,7 +87,7 @@ impl Trial for Pairs {
         PAIRS
     }
 
-    fn round(&mut self, rt: &HostRuntime, source: &mut Source, _round: u32) -> io::Result<()> {
+    fn round(&mut self, source: &mut Source<'_>, _round: u32) -> io::Result<()> {
         let places = source.random.places();
         let other = if source.random.one_in(4) {
             source.random.places()
@@ -94,14 +97,14 @@ impl Trial for Pairs {
         let ruling = KIND.ruling(source, places)?;
         let rows = source.rows(other)?;
         let lists = Lists::new(source, KIND.longest, CHANGING)?;
-        let Some(table) = ruling.form.table(source.heap, places)? else {
+        let Some(table) = ruling.form.table(source.rt.alloc(), places)? else {
             return Ok(());
         };
         let Ok(automaton) = rows.automaton() else {
             return Ok(());
         };
         let mut asking = Asking {
-            rt,
+            rt: source.rt,
             lists: &lists,
             random: &mut source.random,
         };

@@ -1,8 +1,6 @@
 //! Numbers that look random, and what samples are made with.
 ghost use Rattle.std.specs.Prelude.{◌≤◌};
 
-use std::alloc::Global;
-
 /// A source of numbers that look random and are the same on each run.
 #[derive(Drop)]
 pub(crate) struct Random {
@@ -59,9 +57,9 @@ impl Random {
     }
 }
 
-/// What samples are made with.
+/// What samples are made with, and where what differs is printed.
 #[derive(Drop)]
-pub(crate) struct Source {
-    pub(crate) heap: Global,
+pub(crate) struct Source<'a> {
+    pub(crate) rt: &'a HostRuntime,
     pub(crate) random: Random,
 }

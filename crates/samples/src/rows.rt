@@ -40,6 +40,7 @@ fn asks(edge: &Edge, places: u8, signal: u8) -> bool {
 }
 
 /// Whether a signal is the same at each step.
+// Apart from the `follows` of judge.rt, which differs in the operator: as one they would take a closure.
 fn agrees(signal: u8, s: &[u32], t: &[u32]) -> bool {
     s.iter()
         .zip(t)
@@ -74,6 +75,7 @@ impl Rows {
         if i >= word.steps {
             return is_on(self.good as u32, state);
         }
+        // No `is_some_and`: its closure would need a measure of its own.
         match self.enters(state, word, i) {
             Some(entered) => self.ends_well(entered, word, i + 1),
             None => false,

@@ -40,7 +40,7 @@ fn signals(random: &mut Random) -> u8 {
 
 impl Kind {
     /// A rule of the kind.
-    pub(crate) fn ruling(self, source: &mut Source, places: u8) -> Result<Ruling, AllocError> {
+    pub(crate) fn ruling(self, source: &mut Source<'_>, places: u8) -> Result<Ruling, AllocError> {
         let signals = signals(&mut source.random);
         let bounds = Bounds {
             places,
@@ -79,11 +79,12 @@ impl Rules {
     /// Judges by a rule's own table, where it is not too large for one.
     fn by_table(&mut self, asking: &mut Asking<'_>, ruling: &Ruling) -> io::Result<()> {
         if let Some(table) = ruling.form.table(asking.rt.alloc(), ruling.places)? {
-            let comparison = Comparison {
+            let mut comparison = Comparison {
                 policy: &TablePolicy::new(table),
                 judge: ruling,
+                tallies: &mut self.tables,
             };
-            comparison.run(asking, &mut self.tables)?;
+            comparison.run(asking)?;
         }
         Ok(())
     }
@@ -100,11 +101,12 @@ impl Rules {
                 if self.refusals.count(false, too_large) {
                     println!(rt; "difference: this card is accepted\n{text}")?;
                 }
-                let comparison = Comparison {
+                let mut comparison = Comparison {
                     policy: &TablePolicy::new(table),
                     judge: ruling,
+                    tallies: &mut self.cards,
                 };
-                comparison.run(asking, &mut self.cards)
+                comparison.run(asking)
             }
             Err(fault) => {
                 let number = Report::from(fault).number;
@@ -123,13 +125,13 @@ impl Trial for Rules {
         self.kind.rules
     }
 
-    fn round(&mut self, rt: &HostRuntime, source: &mut Source, _round: u32) -> io::Result<()> {
+    fn round(&mut self, source: &mut Source<'_>, _round: u32) -> io::Result<()> {
         let places = source.random.places();
         let ruling = self.kind.ruling(source, places)?;
         let changing = ruling.signals.saturating_add(1);
         let lists = Lists::new(source, self.kind.longest, changing)?;
         let mut asking = Asking {
-            rt,
+            rt: source.rt,
             lists: &lists,
             random: &mut source.random,
         };

@@ -22,7 +22,7 @@ fn list_len(random: &mut Random, longest: u8) -> usize {
     }
 }
 
-impl Source {
+impl<'a> Source<'a> {
     /// A list of mostly at most so many letters, each mostly the one before it with a signal changed.
     fn drifting(&mut self, longest: u8, signals: u8) -> Result<Vec<u32>, AllocError> {
         let random = &mut self.random;
@@ -36,7 +36,7 @@ impl Source {
                 }
                 letter
             })
-            .collect(self.heap)
+            .collect(self.rt.alloc())
     }
 
     /// A list with the same letters, but for a signal in some of them, that is turned on in all of
@@ -52,15 +52,19 @@ impl Source {
                 (true, false) => *letter & !signal,
                 (false, _) => *letter,
             })
-            .collect(self.heap)
+            .collect(self.rt.alloc())
     }
 }
 
 impl Lists {
     /// Lists of mostly at most so many letters, in which so many signals change.
-    pub(crate) fn new(source: &mut Source, longest: u8, signals: u8) -> Result<Lists, AllocError> {
+    pub(crate) fn new(
+        source: &mut Source<'_>,
+        longest: u8,
+        signals: u8,
+    ) -> Result<Lists, AllocError> {
         let mut all = Lists {
-            lists: Vec::new(source.heap),
+            lists: Vec::new(source.rt.alloc()),
         };
         for made in 0..LISTS {
             let list = if made == 0 || source.random.one_in(2) {
@@ -76,10 +80,9 @@ impl Lists {
 
     /// The list at an index; none at all past the last.
     fn get(&self, index: u8) -> &[u32] {
-        match self.lists.get(index as usize) {
-            Some(list) => list.as_slice(),
-            None => &[],
-        }
+        self.lists
+            .get(index as usize)
+            .map_or(&[], |list| list.as_slice())
     }
 
     /// One of the lists.

@@ -49,7 +49,7 @@ fn play_over<L: Layout>(
     match MemoryStore::<L>::new(memory(heap, len)?) {
         Err(refusal) => {
             let number = refusal.number();
-            let memory = if memory_alike(refusal.memory.as_slice(), len, 0) {
+            let memory = if memory_alike(&refusal.memory, len, 0) {
                 "as it was"
             } else {
                 "wrong"
@@ -60,7 +60,7 @@ fn play_over<L: Layout>(
             let mut play = Play::new(store, Model::new(heap, sessions, letters), heap);
             play.run(CALLS)?;
             let (store, tally) = play.finish();
-            let memory = if memory_alike(store.into_memory().as_slice(), len, letters) {
+            let memory = if memory_alike(&store.into_memory(), len, letters) {
                 "as it should be"
             } else {
                 "wrong"

@@ -51,14 +51,14 @@ impl Model {
 
     /// How many letters they have in all.
     pub(crate) fn letters(&self) -> usize {
-        letters_in(self.kept.as_slice())
+        letters_in(&self.kept)
     }
 
     /// The session at a place.
     pub(crate) fn session(&self, place: usize) -> Option<Session> {
         self.kept.get(place).map(|kept| Session {
             number: kept.number,
-            letters: kept.letters.as_slice(),
+            letters: &kept.letters,
         })
     }
 
@@ -78,11 +78,10 @@ impl Model {
             .iter()
             .enumerate()
             .filter(|(place, _)| !places.contains(place))
-            .map(|(_, kept)| Kept::new(heap, kept.number, kept.letters.as_slice()))
+            .map(|(_, kept)| Kept::new(heap, kept.number, &kept.letters))
             .try_collect(heap)?;
         after.push(Kept::new(heap, session.number, session.letters)?)?;
-        let fits = after.len() <= self.most_sessions
-            && letters_in(after.as_slice()) <= self.most_letters;
+        let fits = after.len() <= self.most_sessions && letters_in(&after) <= self.most_letters;
         if session.letters.len() > 128 || !fits {
             return Ok(Err(NoRoom));
         }

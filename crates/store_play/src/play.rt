@@ -29,7 +29,7 @@ impl<S: Store + Drop> Play<S> {
             store,
             model,
             random: Random::new(4),
-            tally: Tally::new(),
+            tally: Tally::default(),
             heap,
         }
     }
@@ -77,7 +77,7 @@ impl<S: Store + Drop> Play<S> {
         let place = self.random.below(self.model.len().saturating_add(2));
         let room = self.random.below(140);
         let mut buffer = vec![in self.heap; MARK; room]?;
-        let alike = self.letters_alike(place, buffer.as_mut_slice());
+        let alike = self.letters_alike(place, &mut buffer);
         self.tally.note(alike);
         Ok(())
     }
@@ -97,10 +97,10 @@ impl<S: Store + Drop> Play<S> {
         letters.truncate(len);
         let session = Session {
             number: random.next(),
-            letters: letters.as_slice(),
+            letters: &letters,
         };
-        let answer = self.store.exchange(places.as_slice(), session);
-        let wanted = self.model.exchange(self.heap, places.as_slice(), session)?;
+        let answer = self.store.exchange(&places, session);
+        let wanted = self.model.exchange(self.heap, &places, session)?;
         self.tally.note(answer == wanted);
         match wanted {
             Ok(()) => self.tally.taken = self.tally.taken.saturating_add(1),
@@ -113,7 +113,7 @@ impl<S: Store + Drop> Play<S> {
     fn entries_alike(&self) -> Result<bool, AllocError> {
         let mut buffer = vec![in self.heap; MARK; 128]?;
         let alike = (0..self.model.len()).all(|place| self.entry_alike(place)
-            && self.letters_alike(place, buffer.as_mut_slice()));
+            && self.letters_alike(place, &mut buffer));
         Ok(alike && self.entry_alike(self.model.len()))
     }
 

@@ -1,7 +1,7 @@
 use std::fmt;
 
 /// What came of the calls that were played.
-#[derive(Drop)]
+#[derive(Default, Drop)]
 pub(crate) struct Tally {
     pub(crate) calls: u32,
     pub(crate) taken: u32,
@@ -12,18 +12,6 @@ pub(crate) struct Tally {
 }
 
 impl Tally {
-    /// Of no calls.
-    pub(crate) fn new() -> Tally {
-        Tally {
-            calls: 0,
-            taken: 0,
-            refused: 0,
-            differences: 0,
-            most_sessions: 0,
-            most_letters: 0,
-        }
-    }
-
     /// Counts a difference, where there is one.
     pub(crate) fn note(&mut self, alike: bool) {
         if !alike {

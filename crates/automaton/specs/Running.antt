@@ -1,14 +1,14 @@
 -- The run over all steps, and the runs that fail.
-use Rattle.std.specs.Prelude.{◌≡◌, ℕ, zero, suc, ◌+◌, ◌-◌, ◌/◌, ◌%◌, ◌^◌, ◌<◌, ◌≤◌, Bool, true, false, ◌⊎◌, ◌↔◌, List, [], ◌∷◌, length, take, Some, None, Decides, Option, slice_index, slice_index_or, refl}
+use Rattle.std.specs.Prelude.{◌≡◌, ℕ, zero, suc, ◌+◌, ◌-◌, ◌/◌, ◌%◌, ◌^◌, ◌<◌, Bool, true, false, ◌⊎◌, ◌↔◌, List, [], ◌∷◌, length, Some, None, Decides, Option, slice_index, slice_index_or, refl}
 use Rattle.std.proofs.Math.Logic.{inl, inr, ⊎_elim}
 use Rattle.std.proofs.Common.{sym, ap, ap₂, subst, ◌∙◌}
 use native.Mathlib.Omega.{arith}
 use Rattle.std.proofs.lemmas.Bool.{false≢true, both_ways, eqb-true, ne_eqb, eq-eqb}
-use Rattle.policy.specs.Sessions.{Tuple, On, IsTuple, letters, shortest}
+use Rattle.policy.specs.Sessions.{Tuple, On, IsTuple, shortest}
 use Rattle.automaton.specs.declared.edge.Edge.{Edge}
 use Rattle.automaton.specs.Runs.{column, Takes, Run, Accepted, Breaks, Stuck, Failed}
-use Rattle.automaton.specs.Testing.{shown, next_state, go_on, accepts}
-use Rattle.automaton.specs.Stepping.{same_some, false_from, next_takes, takes_next, none_stuck, stuck_none, shown_same}
+use Rattle.automaton.specs.Testing.{next_state, go_on, accepts}
+use Rattle.automaton.specs.Stepping.{same_some, false_from, next_takes, takes_next, none_stuck, stuck_none}
 
 -- ---- a step of the loop
 
@@ -21,14 +21,6 @@ module _ (k : ℕ) (es : List Edge) (good : ℕ) (xs : Tuple) (m i q : ℕ) (l :
 
   pub goes : (r : ℕ) → Some r ≡ next_state k es (column xs i) q → accepts k es good xs (m - i) i q ≡ accepts k es good xs (m - (i + 1)) (i + 1) r
   goes r e = step ∙ ap (λ o. go_on o (λ s. accepts k es good xs (m - (i + 1)) (i + 1) s)) (sym e)
-
--- the same by the letters of the first places
-module _ (k : ℕ) (es : List Edge) (good : ℕ) (xs : Tuple) (m i q : ℕ) (ls : List ℕ) (few : k ≤ 4) (l : i < m) (shows : ls ≡ take k (letters xs i)) where
-  pub stops_shown : None ≡ next_state (length ls) es (shown ls) q → accepts k es good xs (m - i) i q ≡ false
-  stops_shown e = stops k es good xs m i q l (e ∙ shown_same k es xs i ls q few shows)
-
-  pub goes_shown : (r : ℕ) → Some r ≡ next_state (length ls) es (shown ls) q → accepts k es good xs (m - i) i q ≡ accepts k es good xs (m - (i + 1)) (i + 1) r
-  goes_shown r e = goes k es good xs m i q l r (e ∙ shown_same k es xs i ls q few shows)
 
 -- ---- the run
 

@@ -22,12 +22,9 @@ impl Automaton {
     fn last_state(&self, word: &JoinedWord) -> Option<u8>
         ensures { (good : ℕ) → accepts self.now.places (edges_of self.now) good (sessions word.now.places) word.now.steps 0 0 ≡ go_on result (on good) }
     {
-        let mut state = 0;
-        // By index: a step is a column through the places, and no slice has it.
-        for step in 0..word.len() {
-            state = self.next_state(state, &word.letters_at(step)[..self.places])?;
-        }
-        Some(state)
+        (0..word.len()).try_fold(0, |state, step| {
+            self.next_state(state, &word.letters_at(step)[..self.places])
+        })
     }
 
     /// Whether the run over a joined word ends in a good state.

@@ -1,23 +1,18 @@
-use Rattle.std.proofs.Common.{sym, ◌∙◌, ap, arith}
-use Rattle.policy.specs.Sessions.{on, sessions}
+use Rattle.std.proofs.Common.{rules, ◌≡◌, ℕ, ◌-◌, take, ap, ◌∙◌, refl, arith}
+use Rattle.policy.specs.Sessions.{letters, sessions}
 use Rattle.automaton.specs.Automata.{edges_of}
-use Rattle.automaton.specs.Running.{stops_shown, goes_shown}
-use Rattle.automaton.specs.Testing.{go_on}
+use Rattle.automaton.specs.Stepping.{shown_same}
+use Rattle.automaton.specs.Testing.{accepts}
+use Rattle.automaton.proofs.Folded.{folded}
 use Rattle.automaton.proofs.automaton.Automaton.last_state.Goals as goal
 
-pub returns-in_err-state : goal.returns-in_err-state
-returns-in_err-state c = λ good.
+pub returns : goal.returns
+returns c = λ good.
     let a = c.args.self.now in
     let w = c.args.word.now in
-    let l = c.loop-step in
-    sym (l.invariant good)
-    ∙ stops_shown a.places (edges_of a) good (sessions w.places) w.steps l.step l.state _ a.sound.1 (omega arith) (cc) (sym c.in_err-state.was ∙ c.next_state.ensures)
-    ∙ ap (λ o. go_on o (on good)) (sym c.from_residual.ensures)
-
-pub loop-step-preserved : goal.loop-step-preserved
-loop-step-preserved c = λ good.
-    let a = c.args.self.now in
-    let w = c.args.word.now in
-    let l = c.loop-step in
-    sym (goes_shown a.places (edges_of a) good (sessions w.places) w.steps l.step l.state _ a.sound.1 (omega arith) (cc) c.in_ok-state.state (sym c.in_ok-state.was ∙ c.next_state.ensures))
-    ∙ l.invariant good
+    let f = c.try_fold.ensures.ran in
+    let next = λ (q i : ℕ). shown_same a.places (edges_of a) (sessions w.places) i (take a.places (letters (sessions w.places) i)) q a.sound.1 refl in
+    let whole : w.steps ≡ w.steps - 0 = omega arith in
+    ap (λ d. accepts a.places (edges_of a) good (sessions w.places) d 0 0) whole
+    ∙ folded _ _ a.places (edges_of a) good (sessions w.places) w.steps (λ q i r p l call. (search rules, search rules ∙ next q i))
+    _ f.0 f.1 f.2 f.3 _ _ 0 _ c.len.ensures f.4 f.5 f.6

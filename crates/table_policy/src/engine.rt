@@ -80,7 +80,7 @@ pub(crate) fn first_value(table: &Table, word: &JoinedWord) -> bool
     ensures { result ≡ eval (sessions word.now.places) word.now.steps (rule_of table.now) word.now.steps }
 {
     let mut row = [false; MOST_NODES];
-    // By index: a step is a column through the places, and no slice has it.
+    // No fold: its closure would have to state the clauses of `row_at` again.
     for step in (0..word.len()).rev() {
         row = row_at(table, word, step, &row);
     }

@@ -13,10 +13,10 @@ impl<T: Copy, const N: usize> FixedVec<T, N> {
         if items.len() > N - self.len {
             return Err(Full);
         }
-        let start = self.len;
-        self.len = start + items.len();
-        let all = &mut self.items[..];
-        all[start..start + items.len()].copy_from_slice(items);
+        // Item by item: a copy as a whole would have the archive for C need `memmove` from outside.
+        for item in items {
+            self.push(*item).unwrap();
+        }
         Ok(())
     }
 }

@@ -42,7 +42,7 @@ fn broken(policy: &TablePolicy) -> usize {
 
 /// Prints what came of a table of a size.
 fn report(rt: &HostRuntime, size: Size, timed: bool) -> io::Result<()> {
-    let Some(table) = size.table(rt.alloc())? else {
+    let Some(table) = size.table() else {
         return println!(rt; "no table");
     };
     let policy = TablePolicy::new(table);

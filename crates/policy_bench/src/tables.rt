@@ -1,6 +1,5 @@
 //! Tables to measure with.
-use rule::{Node, Table};
-use std::alloc::{AllocError, Global};
+use rule::{MOST_NODES, Node, Table};
 use std::fmt;
 
 /// How many nodes a table has, and over how many places.
@@ -45,8 +44,14 @@ impl Size {
     }
 
     /// A table of the size, or none where no table has it.
-    pub(crate) fn table(self, heap: Global) -> Result<Option<Table>, AllocError> {
-        let nodes: Vec<Node> = (0..self.nodes).map(|index| self.node(index)).collect(heap)?;
-        Ok(Table::new(self.places as usize, nodes.as_slice()))
+    // In place: a Vec can run out of memory, and this program does not fail for that.
+    pub(crate) fn table(self) -> Option<Table> {
+        let mut index = 0u8;
+        let nodes: [Node; MOST_NODES] = std::array::from_fn(|_| {
+            let node = self.node(index);
+            index = index.wrapping_add(1);
+            node
+        });
+        Table::new(self.places as usize, nodes.get(..self.nodes as usize)?)
     }
 }

@@ -9,11 +9,20 @@ pub(crate) fn is_on(letter: u32, signal: u8) -> bool {
     (0..signal).fold(letter, |rest, _| rest / 2) % 2 == 1
 }
 
-/// In how many signals of the set two letters differ, counted one signal after another.
+/// In how many signals of the set two letters differ, counted one signal after another: the set and
+/// the letters are halved together.
 pub(crate) fn differing(set: u32, first: u32, second: u32) -> usize {
-    (0..SIGNALS)
-        .filter(|signal| is_on(set, *signal) && is_on(first, *signal) != is_on(second, *signal))
-        .count()
+    let none = (0usize, set, first, second);
+    let (count, _, _, _) = (0..SIGNALS).fold(none, |(count, set, first, second), _| {
+        let differs = set % 2 == 1 && first % 2 != second % 2;
+        (
+            count.saturating_add(differs as usize),
+            set / 2,
+            first / 2,
+            second / 2,
+        )
+    });
+    count
 }
 
 /// Whether a list of letters is a session.

@@ -11,7 +11,7 @@ use Rattle.store.specs.declared.memory_store.MemoryStore.{MemoryStore}
 use Rattle.store.specs.declared.limits.Limits.{Limits}
 use Rattle.store.specs.Entries.{Entry, exchanged, letters_in, takes, without_from}
 use Rattle.store.specs.Headers.{headers_in}
-use Rattle.store.specs.Layouts.{letters_of, room_of, spread}
+use Rattle.store.specs.Layouts.{by_len, letters_of, room_of, spread}
 use Rattle.store.specs.Inner.Kept.{has_room}
 use Rattle.store.specs.Laws.{letters_spread, short_true}
 use Rattle.store.specs.Leaves.{map_left, all_left}
@@ -37,7 +37,7 @@ module _ {L : _} {g : _} (s : MemoryStore L g) (wide : (n : ℕ) → n ≤ 128 �
   widths = all_wide f wide hs (short_true hs s.headers.short)
 
   left_heads : map head_of (without_from 0 ps es) ≡ map header_pair left
-  left_heads = map_left head_of ps 0 es ∙ ap (without_from 0 ps) (spread_heads f hs (vec_items s.memory) widths inside) ∙ sym (map_left header_pair ps 0 hs)
+  left_heads = map_left head_of ps 0 es ∙ ap (without_from 0 ps) (spread_heads (by_len f) hs (vec_items s.memory) widths inside) ∙ sym (map_left header_pair ps 0 hs)
 
   takes_is : takes (limits_in s) ps es e ≡ has_room (limits_in s) left (length e.letters)
   takes_is =
@@ -48,8 +48,8 @@ module _ {L : _} {g : _} (s : MemoryStore L g) (wide : (n : ℕ) → n ≤ 128 �
       ap (λ n. nat_le (length e.letters) 128 && (nat_le n b.sessions && nat_le (letters_in (stay ++ e ∷ [])) b.letters)) counts
       ∙ ap (λ n. nat_le (length e.letters) 128 && (nat_le (length left + 1) b.sessions && nat_le n b.letters)) totals
 
-  pub test_is : {t : Bool} {n : ℕ} {b : Limits} {ks : List Header} → n ≡ vec_len s.memory → b ≡ g.limits n → ks ≡ left → t ≡ has_room b ks (length e.letters) → t ≡ takes (limits_in s) ps es e
-  test_is {t} {n} {b} {ks} size limits stay test = test ∙ ap (λ b. has_room b ks (length e.letters)) (limits ∙ ap g.limits size) ∙ ap (λ ks. has_room (limits_in s) ks (length e.letters)) stay ∙ sym takes_is
+  pub test_is : {t : Bool} {n : ℕ} {b : Limits} → n ≡ vec_len s.memory → b ≡ g.limits n → t ≡ has_room b left (length e.letters) → t ≡ takes (limits_in s) ps es e
+  test_is {t} {n} {b} size limits test = test ∙ ap (λ b. has_room b left (length e.letters)) (limits ∙ ap g.limits size) ∙ sym takes_is
 
   parts : has_room (limits_in s) left (length e.letters) ≡ true → (length e.letters ≤ 128) × (length left + 1 ≤ (limits_in s).sessions) × (letters_of left + length e.letters ≤ (limits_in s).letters)
   parts test =
@@ -62,14 +62,14 @@ module _ {L : _} {g : _} (s : MemoryStore L g) (wide : (n : ℕ) → n ≤ 128 �
   room_after test room =
       let new : Header = record { number = 0; len = length e.letters } in
       let p = parts (sym (test ∙ takes_is)) in
-      omega (arith, room (left ++ new ∷ []) (omega (arith, length_push left new, p.1)) (omega (arith, sum_by_push (λ (h : Header). h.len) left new, p.2)), sum_by_push (λ (h : Header). f h.len) left new, wide (length e.letters) p.0)
+      omega (arith, room (left ++ new ∷ []) (omega (arith, length_push left new, p.1)) (omega (arith, sum_by_push (λ (h : Header). h.len) left new, p.2)), sum_by_push (by_len f) left new, wide (length e.letters) p.0)
 
   -- the new session lies behind those that are left
-  pub exchange_is : (ks : List Header) (m₁ m₂ : List ℕ) (end : ℕ) → end ≡ room_of f left → end + length e.letters ≤ length m₁ → spread f left m₁ ≡ without_from 0 ps es → ks ≡ left ++ record { number = e.number; len = length e.letters } ∷ [] → m₂ ≡ paste m₁ end e.letters (length e.letters) → spread f ks m₂ ≡ exchanged ps es e
+  pub exchange_is : (ks : List Header) (m₁ m₂ : List ℕ) (end : ℕ) → end ≡ room_of f left → end + length e.letters ≤ length m₁ → spread (by_len f) left m₁ ≡ without_from 0 ps es → ks ≡ left ++ record { number = e.number; len = length e.letters } ∷ [] → m₂ ≡ paste m₁ end e.letters (length e.letters) → spread (by_len f) ks m₂ ≡ exchanged ps es e
   exchange_is ks m₁ m₂ end at fits stays headers written =
       let new : Header = record { number = e.number; len = length e.letters } in
-      rw (headers, written) (spread_put f left m₁ e.letters new end at (all_left ps (λ h. h.len ≤ f h.len) 0 hs widths) fits (omega arith))
-      ∙ ap (λ (xs : List ℕ). spread f left m₁ ++ (record { number = e.number; letters = xs } ∷ [])) (take_all (length e.letters) e.letters (omega arith))
+      rw (headers, written) (spread_put (by_len f) left m₁ e.letters new end at (all_left ps (λ h. h.len ≤ f h.len) 0 hs widths) fits (omega arith))
+      ∙ ap (λ (xs : List ℕ). spread (by_len f) left m₁ ++ (record { number = e.number; letters = xs } ∷ [])) (take_all (length e.letters) e.letters (omega arith))
       ∙ ap (λ xs. xs ++ e ∷ []) stays
 
 -- what a Vec holds after its letters were written

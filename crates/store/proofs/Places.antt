@@ -10,7 +10,7 @@ use Rattle.store.specs.declared.header.Header.{Header}
 use Rattle.store.specs.declared.memory_store.MemoryStore.{MemoryStore}
 use Rattle.store.specs.Entries.{read, read_at, written}
 use Rattle.store.specs.Headers.{headers_in}
-use Rattle.store.specs.Layouts.{front, room_of, spread}
+use Rattle.store.specs.Layouts.{by_len, front, room_of, spread}
 use Rattle.store.specs.Laws.{nth_within, run_inside, run_long, short_true}
 use Rattle.store.specs.Leaves.{unused}
 use Rattle.store.specs.Spreads.{all_wide, head_of, header_pair, spread_heads, spread_nth}
@@ -43,10 +43,10 @@ module _ {L : _} {g : _} (s : MemoryStore L g) (wide : (n : ℕ) → n ≤ 128 �
 
   -- the pair at a place is that of the entry there
   pub entry_is : (i : ℕ) → option_map header_pair (slice_get hs i) ≡ option_map head_of (slice_get (entries_in s) i)
-  entry_is i = sym (nth_map header_pair hs i) ∙ ap (λ xs. slice_get xs i) (sym (spread_heads f hs m widths inside)) ∙ nth_map head_of (spread f hs m) i
+  entry_is i = sym (nth_map header_pair hs i) ∙ ap (λ xs. slice_get xs i) (sym (spread_heads (by_len f) hs m widths inside)) ∙ nth_map head_of (spread (by_len f) hs m) i
 
   pub reads_none : (i room : ℕ) → slice_get hs i ≡ None → read_at (entries_in s) i room ≡ None
-  reads_none i room none = ap (λ o. read o room) (spread_nth f hs m i ∙ ap (option_map (λ h. front h (drop (room_of f (take i hs)) m))) none)
+  reads_none i room none = ap (λ o. read o room) (spread_nth (by_len f) hs m i ∙ ap (option_map (λ h. front h (drop (room_of f (take i hs)) m))) none)
 
   module _ (i room : ℕ) (h : Header) (some : slice_get hs i ≡ Some h) where
     abbrev start : ℕ
@@ -66,7 +66,7 @@ module _ {L : _} {g : _} (s : MemoryStore L g) (wide : (n : ℕ) → n ≤ 128 �
     long = subst (λ (x : Header). length (take x.len (drop start m)) ≡ x.len) is (run_long f hs m widths inside i lt)
 
     here : read_at (entries_in s) i room ≡ read (Some (front h (drop start m))) room
-    here = ap (λ o. read o room) (spread_nth f hs m i ∙ ap (option_map (λ h. front h (drop start m))) some)
+    here = ap (λ o. read o room) (spread_nth (by_len f) hs m i ∙ ap (option_map (λ h. front h (drop start m))) some)
 
     pub reads_long : room < h.len → read_at (entries_in s) i room ≡ None
     reads_long gt = let no' : leb (length (take h.len (drop start m))) room ≡ false = lt-leb _ _ (omega (arith, long)) in here ∙ rw no'

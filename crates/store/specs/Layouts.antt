@@ -9,19 +9,23 @@ use Rattle.store.specs.Memory.{Memory}
 abbrev pub letters_of : List Header → ℕ
 letters_of hs = sum_by (λ h. h.len) hs
 
--- how many letters of the memory they take, where the next one starts `pitch` letters on from the
--- start of a session of so many letters
+-- how many letters on from a session's start the next one starts, where that is told by how many
+-- letters it has
+abbrev pub by_len : (ℕ → ℕ) → Header → ℕ
+by_len pitch = λ h. pitch h.len
+
+-- how many letters of the memory they then take
 abbrev pub room_of : (ℕ → ℕ) → List Header → ℕ
-room_of pitch hs = sum_by (λ h. pitch h.len) hs
+room_of pitch hs = sum_by (by_len pitch) hs
 
 -- the session that begins the memory
 abbrev pub front : Header → List ℕ → Entry
 front h memory = record { number = h.number; letters = take h.len memory }
 
 -- the sessions that lie in the memory one after another
-abbrev pub spread : (ℕ → ℕ) → List Header → List ℕ → List Entry
-spread pitch [] memory = []
-spread pitch (h ∷ hs) memory = front h memory ∷ spread pitch hs (drop (pitch h.len) memory)
+abbrev pub spread : (Header → ℕ) → List Header → List ℕ → List Entry
+spread f [] memory = []
+spread f (h ∷ hs) memory = front h memory ∷ spread f hs (drop (f h) memory)
 
 abbrev pub joined : List Entry → List ℕ
 joined [] = []

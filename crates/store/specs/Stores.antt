@@ -5,12 +5,12 @@ use Rattle.store.specs.declared.too_short.TooShort.{TooShort}
 use Rattle.store.specs.declared.limits.Limits.{Limits}
 use Rattle.store.specs.Entries.{Entry}
 use Rattle.store.specs.Headers.{headers_in}
-use Rattle.store.specs.Layouts.{spread}
+use Rattle.store.specs.Layouts.{by_len, spread}
 use Rattle.store.specs.Memory.{Memory}
 
 module _ {L : _} {g : _} where
   abbrev pub entries_in : MemoryStore L g → List Entry
-  entries_in s = spread g.pitch (headers_in s.headers) (vec_items s.memory)
+  entries_in s = spread (by_len g.pitch) (headers_in s.headers) (vec_items s.memory)
 
   abbrev pub memory_in : MemoryStore L g → Memory
   memory_in s = s.memory

@@ -3,7 +3,7 @@ ghost use Rattle.std.specs.List.{AllByRecursion};
 ghost use Rattle.store.specs.declared.limits.Limits.{Limits};
 ghost use Rattle.store.specs.Entries.{Entry, InRange};
 ghost use Rattle.store.specs.Headers.{headers_in};
-ghost use Rattle.store.specs.Layouts.{letters_of, room_of, spread};
+ghost use Rattle.store.specs.Layouts.{by_len, letters_of, room_of, spread};
 ghost use Rattle.store.specs.Memory.{Memory};
 ghost use Rattle.store.specs.declared.header.Header.{Header};
 
@@ -44,5 +44,5 @@ pub trait Layout {
 
     ghost room: { (n : ℕ) (hs : List Header) → length hs ≤ (limits n).sessions → letters_of hs ≤ (limits n).letters → room_of pitch hs ≤ (limits n).letters };
 
-    ghost lies: { (hs : List Header) (m : Memory) → AllByRecursion (λ h. h.len ≤ 128) hs → room_of pitch hs ≤ length (vec_items m) → lie (spread pitch hs (vec_items m)) m };
+    ghost lies: { (hs : List Header) (m : Memory) → AllByRecursion (λ h. h.len ≤ 128) hs → room_of pitch hs ≤ length (vec_items m) → lie (spread (by_len pitch) hs (vec_items m)) m };
 }

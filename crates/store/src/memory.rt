@@ -8,8 +8,19 @@ pub(crate) fn move_down(memory: &mut [u32], from: usize, to: usize, len: usize)
     ensures { memory.new ≡ paste memory.old to (drop from memory.old) len }
 {
     if from != to {
-        memory.copy_within(from..from + len, to);
+        copy_down(memory, from, to, len);
     }
+}
+
+/// Copies a run of letters down.
+// Not inlined, so that the loop over the sessions keeps its counts in registers.
+#[inline(never)]
+fn copy_down(memory: &mut [u32], from: usize, to: usize, len: usize)
+    requires down { to ≤ from }
+    requires inside { from + len ≤ length memory.old }
+    ensures { memory.new ≡ paste memory.old to (drop from memory.old) len }
+{
+    memory.copy_within(from..from + len, to);
 }
 
 /// Writes letters over those that begin at `at`.

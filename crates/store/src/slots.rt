@@ -32,6 +32,7 @@ impl Layout for Slots {
         LONGEST
     }
 
+    #[tactic(auto, using(crate::specs::Laws::slots_before))]
     fn start(headers: &Headers, place: usize) -> usize {
         place.min(headers.as_slice().len()) * LONGEST
     }

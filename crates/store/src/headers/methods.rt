@@ -37,44 +37,45 @@ impl Headers {
         self.as_slice().get(place).copied()
     }
 
-    /// How many letters the sessions have.
-    pub(crate) fn letters(&self) -> usize
-        ensures value { result ≡ letters_of (headers_in self.now) }
-        ensures bound { result ≤ 8192 }
+    /// How many sessions are left without those at the places, and how many letters they have.
+    // Inlined with its caller: a refusal costs this one pass, and a call beside it would be felt.
+    #[inline(always)]
+    fn left(&self, places: &[usize]) -> (usize, usize)
+        ensures sessions { result.0 ≡ length (without_from 0 places.now (headers_in self.now)) }
+        ensures letters { result.1 ≡ letters_of (without_from 0 places.now (headers_in self.now)) }
+        ensures few { result.0 ≤ 64 }
+        ensures small { result.1 ≤ 8192 }
     {
-        self.as_slice().iter().map(|header| header.len).sum()
+        let headers = self.as_slice();
+        let mut sessions = 0;
+        let mut letters = 0;
+        for (place, header) in headers.iter().enumerate() {
+            if places.contains(&place) {
+                continue;
+            }
+            sessions += 1;
+            letters += header.len;
+        }
+        (sessions, letters)
     }
 
-    /// Whether a session more, of so many letters, is within the limits.
-    pub(crate) fn has_room(&self, limits: Limits, len: usize) -> bool
-        ensures { result ≡ has_room limits (headers_in self.now) len }
+    /// Whether a session more, of so many letters, is within the limits once those at the places
+    /// have left. It builds nothing.
+    #[inline(always)]
+    pub(crate) fn has_room(&self, places: &[usize], limits: Limits, len: usize) -> bool
+        ensures { result ≡ has_room limits (without_from 0 places.now (headers_in self.now)) len }
     {
-        len <= LONGEST
-            && self.as_slice().len() + 1 <= limits.sessions
-            && self.letters() + len <= limits.letters
+        let (sessions, letters) = self.left(places);
+        len <= LONGEST && sessions + 1 <= limits.sessions && letters + len <= limits.letters
     }
 
     /// Appends a header.
+    #[tactic(auto, using(crate::specs::Laws::short_push))]
     pub(crate) fn push(&mut self, header: Header)
         requires room { length (headers_in self.old) < 64 }
         requires short { header.len ≤ 128 }
         ensures { headers_in self.new ≡ headers_in self.old ++ header ∷ [] }
     {
         self.list.push(header).unwrap();
-    }
-
-    /// The headers that are left without those at the places.
-    pub(crate) fn without(&self, places: &[usize]) -> Headers
-        ensures { headers_in result ≡ without_from 0 places.now (headers_in self.now) }
-    {
-        let headers = self.as_slice();
-        let mut list = FixedVec::new(UNUSED);
-        for (place, header) in headers.iter().enumerate() {
-            if places.contains(&place) {
-                continue;
-            }
-            list.push(*header).unwrap();
-        }
-        Headers { list }
     }
 }

@@ -44,11 +44,13 @@ impl<L: Layout> Store for MemoryStore<L> {
         ensures refused { OnErr result (self.new ≡ self.old) }
         ensures memory { MemoryKept (limits_in self.old).letters (memory_in self.old) (memory_in self.new) }
     {
-        let mut stay = self.headers.without(places);
-        if !stay.has_room(L::limits(self.memory.len()), session.letters.len()) {
+        let limits = L::limits(self.memory.len());
+        if !self.headers.has_room(places, limits, session.letters.len()) {
             return Err(NoRoom);
         }
-        let end = compact::<L>(self.memory.as_mut_slice(), &self.headers, places);
+        let mut stay = Headers::new();
+        let memory = self.memory.as_mut_slice();
+        let end = compact::<L>(memory, &self.headers, places, &mut stay);
         write_at(self.memory.as_mut_slice(), end, session.letters);
         stay.push(Header {
             number: session.number,

@@ -2,6 +2,10 @@
 //! answer, an entry, a buffer or the memory differs from what the model says.
 #![tactic(auto)]
 
+ghost use Rattle.std.specs.Prelude.{◌≡◌, MatchResult, vec_len};
+ghost use Rattle.store.specs.Limits.{slot_limits, packed_limits};
+ghost use Rattle.store.specs.Stores.{limits_in, Refused};
+
 mod model;
 mod play;
 mod random;
@@ -11,7 +15,7 @@ use model::Model;
 use play::Play;
 use std::alloc::{AllocError, Global};
 use std::io;
-use store::{Layout, MemoryStore, Packed, Slots};
+use store::{Layout, MemoryStore, PackedStore, SlotStore, TooShort};
 
 /// How many calls are played on each store.
 const CALLS: u32 = 4000;
@@ -36,17 +40,32 @@ fn memory_alike(memory: &[u32], len: usize, from: usize) -> bool {
             .all(|(i, letter)| *letter == first_letter(i))
 }
 
-/// Plays on a store over so many letters, which should keep at most so many sessions with at most
-/// so many letters in all, and prints what came of it.
+/// The slot store over the memory. The clause is what the name promises a caller.
+fn slot_store(memory: Vec<u32>) -> Result<SlotStore, TooShort>
+    ensures { MatchResult result (λ s. limits_in s ≡ slot_limits (vec_len memory)) (λ e. Refused memory e) }
+{
+    SlotStore::new(memory)
+}
+
+/// The packed store over the memory. The clause is what the name promises a caller.
+fn packed_store(memory: Vec<u32>) -> Result<PackedStore, TooShort>
+    ensures { MatchResult result (λ s. limits_in s ≡ packed_limits (vec_len memory)) (λ e. Refused memory e) }
+{
+    PackedStore::new(memory)
+}
+
+/// Plays on a store that was made over so many letters, or not, which should keep at most so many
+/// sessions with at most so many letters in all, and prints what came of it.
 fn play_over<L: Layout>(
     rt: &HostRuntime,
     name: &str,
+    made: Result<MemoryStore<L>, TooShort>,
     len: usize,
     sessions: usize,
     letters: usize,
 ) -> io::Result<()> {
     let heap = rt.alloc();
-    match MemoryStore::<L>::new(memory(heap, len)?) {
+    match made {
         Err(refusal) => {
             let number = refusal.number();
             let memory = if memory_alike(&refusal.memory, len, 0) {
@@ -71,10 +90,13 @@ fn play_over<L: Layout>(
 }
 
 fn main(rt: HostRuntime) -> io::Result<()> {
+    let heap = rt.alloc();
     for len in [0, 127, 128, 129, 200, 256, 1000, 8191, 8192, 9000] {
         let slots = len.min(8192) / 128;
-        play_over::<Slots>(&rt, "slot", len, slots, 128 * slots)?;
-        play_over::<Packed>(&rt, "packed", len, 64, len.min(8192))?;
+        let made = slot_store(memory(heap, len)?);
+        play_over(&rt, "slot", made, len, slots, 128 * slots)?;
+        let made = packed_store(memory(heap, len)?);
+        play_over(&rt, "packed", made, len, 64, len.min(8192))?;
     }
     Ok(())
 }

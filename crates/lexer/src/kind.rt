@@ -30,11 +30,10 @@ impl From<u8> for Kind {
     }
 }
 
-impl Kind {
-    /// Whether a byte of this kind may stand in a word or a number.
-    pub(crate) fn is_wordy(self) -> bool
-        ensures { result ≡ wordy self }
-    {
-        matches!(self, Kind::Letter | Kind::Digit)
-    }
+/// Whether a byte may stand in a word or a number.
+// By the byte alone, since it is asked of each byte of a card: to ask for its kind first takes longer.
+pub(crate) fn is_wordy(byte: u8) -> bool
+    ensures { result ≡ wordy (kind byte) }
+{
+    matches!(byte as char, 'a'..='z' | '0'..='9')
 }

@@ -3,7 +3,7 @@ ghost use Rattle.lexer.specs.Tokens.{run, card_tokens};
 ghost use Rattle.lexer.specs.Lexing.{left, unread, Dark, read_one, taken, IsPart, Falls};
 
 use crate::fault::{Position, TokenFault};
-use crate::kind::Kind;
+use crate::kind::{Kind, is_wordy};
 use crate::lexer::Lexer;
 use crate::number::number;
 use crate::token::{Spot, Token};
@@ -63,7 +63,7 @@ impl<'a> Lexer<'a> {
         ensures memory { result.ref_ptr ≡ (self.now.card.ref_ptr.0, self.now.card.ref_ptr.1 + self.now.at.place) }
     {
         let rest = self.rest();
-        let end = rest.iter().position(|b| !Kind::from(*b).is_wordy());
+        let end = rest.iter().position(|b| !is_wordy(*b));
         &rest[..end.unwrap_or(rest.len())]
     }
 

@@ -123,10 +123,16 @@ module _ (k : ℕ) (at by : ℕ → Letter) where
       ∙ ap (cond (fits_test k by a q) (Some a.to)) (next_same es q (λ j l. same (suc j) (omega arith)))
       ∙ sym (head_fits k by a es q _ refl)
 
--- the letters of the first places at a step, as a list
-pub shown_same : (k : ℕ) (es : List Edge) (ws : Tuple) (i : ℕ) (ls : List Letter) (q : ℕ) → k ≤ 4 → ls ≡ take k (letters ws i) → next_state (length ls) es (shown ls) q ≡ next_state k es (column ws i) q
+-- the letters of a step, as a list
+pub shown_same : (k : ℕ) (es : List Edge) (ws : Tuple) (i : ℕ) (ls : List Letter) (q : ℕ) → k ≤ 4 → ls ≡ letters ws i → next_state k es (shown ls) q ≡ next_state k es (column ws i) q
 shown_same k es ws i ls q few e =
+    ap (λ (l : List Letter). next_state k es (shown l) q) e
+    ∙ next_same k (shown (letters ws i)) (column ws i) es q (λ j l v h. ap (λ (a : ℕ). bit_and a (get_or (get_or es j none).guards v nothing).mask) (letters_at ws i v (omega arith)))
+
+-- those of the first places alone
+pub shown_front : (k : ℕ) (es : List Edge) (ws : Tuple) (i : ℕ) (ls : List Letter) (q : ℕ) → k ≤ 4 → ls ≡ take k (letters ws i) → next_state (length ls) es (shown ls) q ≡ next_state k es (column ws i) q
+shown_front k es ws i ls q few e =
     ap (λ (l : List Letter). next_state (length l) es (shown l) q) e
     ∙ ap (λ (n : ℕ). next_state n es (shown (take k (letters ws i))) q) (length-take-le k (letters ws i) few)
-    ∙ next_same k (shown (take k (letters ws i))) (column ws i) es q (λ j l v h.
-    ap (λ (a : ℕ). bit_and a (get_or (get_or es j none).guards v nothing).mask) (get_or-take k (letters ws i) v 0 h ∙ letters_at ws i v (omega arith)))
+    ∙ next_same k (shown (take k (letters ws i))) (shown (letters ws i)) es q (λ j l v h. ap (λ (a : ℕ). bit_and a (get_or (get_or es j none).guards v nothing).mask) (get_or-take k (letters ws i) v 0 h))
+    ∙ shown_same k es ws i (letters ws i) q few refl

@@ -1,10 +1,11 @@
 -- The signals that an automaton asks for, as one set.
-use Rattle.std.specs.Prelude.{◌≡◌, ℕ, min, zero, suc, ◌<◌, ◌⊎◌, List, [], ◌∷◌, length, take, fold, bit_and, bit_or, slice_index_or}
+use Rattle.std.specs.Prelude.{◌≡◌, ℕ, zero, suc, ◌<◌, ◌⊎◌, List, [], ◌∷◌, length, take, fold, bit_and, bit_or, slice_index_or, refl}
 use Rattle.std.proofs.Common.{inl, inr, ⊎_elim, sym, ap, subst, ◌∙◌, arith}
 use Rattle.std.proofs.lemmas.List.{get_or-take, get_or_past, length-take}
-use Rattle.std.proofs.lemmas.Bool.{cases_eq, cases_lt}
-use Rattle.std.proofs.lemmas.Nat.Bits.{bit_at-lt, bit_at_and, same_from_bits}
-use Rattle.policy.proofs.Digits.{digit, digit_is, digit_same, on_zero, on_or, or_on}
+use Rattle.std.proofs.lemmas.Bool.{cases_lt}
+use Rattle.std.proofs.lemmas.Nat.{and_comm}
+use Rattle.std.proofs.lemmas.Nat.Bits.{same_from_bits}
+use Rattle.policy.proofs.Digits.{Digit, off, on', digit_is, digit_same, digit_and, on_zero, on_or, or_on}
 use Rattle.policy.specs.Sessions.{On}
 use Rattle.automaton.specs.declared.edge.Edge.{Edge}
 use Rattle.automaton.specs.declared.edge.Guard.{Guard}
@@ -50,11 +51,9 @@ looks_union k es x l = fold_on (λ e. or_below k e.guards) none x 0 es (inr (l.0
 
 -- ---- letters that agree on a set
 
-and_same : (m a b : ℕ) → m < 2 → (m ≡ 1 → a ≡ b) → min a m ≡ min b m
-and_same m a b l h = ⊎_elim (λ e. ap (λ (x : ℕ). min x m) (h e)) (λ ne. omega arith) (cases_eq m 1)
+and_same : {m a b : ℕ} → Digit m → Digit a → Digit b → (m ≡ 1 → (a ≡ 1 → b ≡ 1) × (b ≡ 1 → a ≡ 1)) → bit_and a m ≡ bit_and b m
+and_same off a b h = and_comm _ 0 ∙ sym (and_comm _ 0)
+and_same on' a b h = ap (λ (x : ℕ). bit_and x 1) (digit_same a b (h refl).0 (h refl).1)
 
 pub agree_same : (m a b : ℕ) → ((x : ℕ) → On m x → (On a x → On b x) × (On b x → On a x)) → bit_and a m ≡ bit_and b m
-agree_same m a b h =
-    same_from_bits _ _ (λ x. bit_at_and a m x
-    ∙ and_same (digit m x) (digit a x) (digit b x) (bit_at-lt m x) (λ o. digit_same (digit_is a x) (digit_is b x) (h x o).0 (h x o).1)
-    ∙ sym (bit_at_and b m x))
+agree_same m a b h = same_from_bits _ _ (λ x. digit_and a m x ∙ and_same (digit_is m x) (digit_is a x) (digit_is b x) (h x) ∙ sym (digit_and b m x))

@@ -1,5 +1,5 @@
 -- The test of a table decides whether nodes make one.
-use Rattle.std.proofs.Common.{ℕ, List, length, get_or, Decides, refl}
+use Rattle.std.proofs.Common.{ℕ, ◌≤◌, List, length, get_or, Decides, refl, arith}
 use Rattle.std.proofs.lemmas.Bool.Decides.{Decides-and, Decides-like, Decides-ltb}
 use Rattle.policy.proofs.Tested.{leb_decides, below_decides}
 use Rattle.rule.specs.declared.node.Node.{Node}
@@ -30,3 +30,18 @@ table_decides k ns =
 
 pub table_fits : (t : Table) → TableFits t.places (nodes_of t)
 table_fits t = (table_decides t.places (nodes_of t)).0 t.sound
+
+-- ---- nodes of a table of k places are nodes of one of 4
+
+node_four : (k i : ℕ) (n : Node) → k ≤ 4 → NodeFits k i n → NodeFits 4 i n
+node_four k i True h f = f
+node_four k i (At v s) h f = (omega (arith, f.0), f.1)
+node_four k i (Near v w n S) h f = (omega (arith, f.0), omega (arith, f.1))
+node_four k i (Not f) h fit = fit
+node_four k i (And f g) h fit = fit
+node_four k i (Or f g) h fit = fit
+node_four k i (Next f) h fit = fit
+node_four k i (Until f g) h fit = fit
+
+pub fits_four : (k : ℕ) (ns : List Node) → TableFits k ns → TableFits 4 ns
+fits_four k ns f = record { some = f.some; few = f.few; low = omega arith; high = omega arith; each = λ i l. node_four k i (get_or ns i True) f.high (f.each i l) }

@@ -44,7 +44,7 @@ impl Size {
     }
 
     /// A table of the size, or none where no table has it.
-    // In place: a Vec can run out of memory, and this program does not fail for that.
+    // In place: a Vec can run out of memory, and a table needs none.
     pub(crate) fn table(self) -> Option<Table> {
         let mut index = 0u8;
         let nodes: [Node; MOST_NODES] = std::array::from_fn(|_| {
